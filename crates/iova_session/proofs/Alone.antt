@@ -2,7 +2,6 @@
 use Rattle.std.proofs.Common.{ℕ, ◌≡◌, inr, List, Option, Some, None, refl, sym, subst}
 use Rattle.std.specs.Prelude.{Result, Ok, Err, Bool, IfSome}
 use Rattle.iova_range.specs.declared.refusal.Refusal.{Refusal}
-use Rattle.iova_range.specs.declared.refusal.Refusal.TheVariants as refusal
 use Rattle.iova_model.specs.State.{State}
 use Rattle.iova_sink.specs.Calls.{Call}
 use Rattle.iova_keep.specs.declared.unmapped.Unmapped.{Unmapped}
@@ -24,28 +23,17 @@ free_does a b strict number seat id listed lo r result x before now is same does
     subst (λ (q : Request). WhereKnown a b (ClientDoes strict number seat id listed q x before now)) (sym is)
     (known_one a b (DoesRelease strict seat id lo result number before now) (ClientDoes strict number seat id listed (request.Free lo) x before now) does (λ s t d. (result, d, same)))
 
-pub flush_does : (a b : Option State) (strict : Bool) (number : ℕ) (seat : SeatState) (id listed : ℕ) (r : Request) (x : Answer) (before now : List Call)
-    → r ≡ request.Flush → WhereKnown a b (FlushesAndDrains seat.worker x number before now) → WhereKnown a b (ClientDoes strict number seat id listed r x before now)
-flush_does a b strict number seat id listed r x before now is does =
-    subst (λ (q : Request). WhereKnown a b (ClientDoes strict number seat id listed q x before now)) (sym is) does
-
 pub list_does : (a : Option State) (strict : Bool) (number : ℕ) (seat : SeatState) (id listed : ℕ) (r : Request) (x : Answer) (calls : List Call)
     → r ≡ request.List → IfSome a (Lists seat.worker id listed x) → WhereKnown a a (ClientDoes strict number seat id listed r x calls calls)
 list_does None strict number seat id listed r x calls is h = tt
 list_does (Some s) strict number seat id listed r x calls is h =
     subst (λ (q : Request). ClientDoes strict number seat id listed q x calls calls s s) (sym is) (h, refl, refl)
 
-pub hello_does : (a : Option State) (strict : Bool) (number : ℕ) (seat : SeatState) (id listed domain : ℕ) (sac : Bool) (r : Request) (calls : List Call)
-    → r ≡ request.Hello domain sac → WhereKnown a a (ClientDoes strict number seat id listed r (answer.Refused refusal.Twice) calls calls)
-hello_does None strict number seat id listed domain sac r calls is = tt
-hello_does (Some s) strict number seat id listed domain sac r calls is =
-    subst (λ (q : Request). ClientDoes strict number seat id listed q (answer.Refused refusal.Twice) calls calls s s) (sym is) (refl, refl, refl)
-
-pub bye_does : (a : Option State) (strict : Bool) (number : ℕ) (seat : SeatState) (id listed : ℕ) (r : Request) (calls : List Call)
-    → r ≡ request.Bye → WhereKnown a a (ClientDoes strict number seat id listed r answer.Bye calls calls)
-bye_does None strict number seat id listed r calls is = tt
-bye_does (Some s) strict number seat id listed r calls is =
-    subst (λ (q : Request). ClientDoes strict number seat id listed q answer.Bye calls calls s s) (sym is) (refl, refl, refl)
+-- a request whose call does nothing
+pub nothing_does : (a : Option State) (strict : Bool) (number : ℕ) (seat : SeatState) (id listed : ℕ) (r q : Request) (x : Answer) (calls : List Call)
+    → r ≡ q → ((s : State) → ClientDoes strict number seat id listed q x calls calls s s) → WhereKnown a a (ClientDoes strict number seat id listed r x calls calls)
+nothing_does None strict number seat id listed r q x calls is h = tt
+nothing_does (Some s) strict number seat id listed r q x calls is h = subst (λ (p : Request). ClientDoes strict number seat id listed p x calls calls s s) (sym is) (h s)
 
 -- Without a client.
 

@@ -38,7 +38,7 @@ use Rattle.iova_session.specs.Leaving.{EndsAfter, still_waits}
 use Rattle.iova_session.specs.Leading.{Moment, moment, open_answer, alloc_answer, FirstDoes, ClientDoes, PairDoes, MovesSeat, PairsLead, EndDoes, SessionLeads}
 use Rattle.iova_session.specs.OneByOne.{Between, ServesOne, ServesEach}
 use Rattle.iova_session.specs.Posts.{kept_if}
-use Rattle.iova_session.proofs.ToldPairs.{same_totals}
+use Rattle.iova_session.proofs.ToldPairs.{same_totals, shares_stay}
 use Rattle.iova_session.proofs.Others.{known_both, known_one}
 use Rattle.iova_session.proofs.Gone.{over_is_gone}
 use Rattle.iova_session.proofs.Emptied.{unseen_others}
@@ -46,13 +46,6 @@ use Rattle.iova_session.proofs.AloneSteps.{AloneIn, Lowers, open_passes, alloc_p
 use Rattle.iova_session.proofs.AloneHolds.{all_pass, release_goes, flush_goes, drain_all_goes, end_client_goes}
 
 -- Shares.
-
--- nothing was given, and nothing taken
-shares_stay : (old new : Totals) → MovesBy [] [] old new → new ≡ old
-shares_stay old new m = same_totals new old
-    (let e = ap (λ (x : Totals). x.count) m in omega (arith, e))
-    (let e = ap (λ (x : Totals). x.frames) m in omega (arith, e))
-    (let e = ap (λ (x : Totals). x.sum_lo) m in omega (arith, e))
 
 -- a range was taken
 taken_one : (r : Frames) (old new : Totals) → MovesBy [] (r ∷ []) old new → old ≡ add_totals new (totals_of (r ∷ []))
@@ -71,13 +64,11 @@ release_lowers (Err e) old new m = shares_stay old new m
 alloc_enough : (result : Result Frames Refusal) (old new held left : Totals) → MovesBy (given_by (alloc_answer result)) (taken_by (alloc_answer result)) held left → HasAtLeast held old
     → MovesTotals (given_or result) old new → HasAtLeast left new
 alloc_enough (Ok r) old new held left m h moved =
-    let c = ap (λ (x : Totals). x.count) moved in
-    let f = ap (λ (x : Totals). x.frames) moved in
-    let a = ap (λ (x : Totals). x.sum_lo) moved in
-    let d = ap (λ (x : Totals). x.count) m in
-    let g = ap (λ (x : Totals). x.frames) m in
-    let b = ap (λ (x : Totals). x.sum_lo) m in
-    record { count = omega (arith, c, d, h.count); frames = omega (arith, f, g, h.frames); sum_lo = omega (arith, a, b, h.sum_lo) }
+    record {
+      count = omega (arith, ap (λ (x : Totals). x.count) moved, ap (λ (x : Totals). x.count) m, h.count);
+      frames = omega (arith, ap (λ (x : Totals). x.frames) moved, ap (λ (x : Totals). x.frames) m, h.frames);
+      sum_lo = omega (arith, ap (λ (x : Totals). x.sum_lo) moved, ap (λ (x : Totals). x.sum_lo) m, h.sum_lo);
+    }
 alloc_enough (Err e) old new held left m h moved =
     subst (λ (x : Totals). HasAtLeast x new) (sym (shares_stay held left m)) (subst (λ (x : Totals). HasAtLeast held x) (sym moved) h)
 
@@ -135,12 +126,8 @@ module _ (law : StepsKeepValidity) (ledger : StepsMoveLedgers) (kind : StepsAreA
   first_keeps : (number : ℕ) (r : Request) (a : Answer) (s t : State) → FirstDoes number w r a s t → KeepsAlone w waiting None a old new s t
   first_keeps number (request.Hello domain sac) a s t (inl h) = so_keeps None a (answer.Refused refusal.NoDomain) s t h.1 (refused_keeps None refusal.NoDomain s t h.2)
   first_keeps number (request.Hello domain sac) a s t (inr h) = so_keeps None a (open_answer h.1.0) s t h.1.2 (hello_keeps sac h.1.0 s t h.1.1)
-  first_keeps number (request.Alloc frames limit) a s t h = so_keeps None a (answer.Refused refusal.NoClient) s t h.0 (refused_keeps None refusal.NoClient s t h.1)
-  first_keeps number (request.Free lo) a s t h = so_keeps None a (answer.Refused refusal.NoClient) s t h.0 (refused_keeps None refusal.NoClient s t h.1)
-  first_keeps number request.List a s t h = so_keeps None a (answer.Refused refusal.NoClient) s t h.0 (refused_keeps None refusal.NoClient s t h.1)
-  first_keeps number request.Flush a s t h = so_keeps None a (answer.Refused refusal.NoClient) s t h.0 (refused_keeps None refusal.NoClient s t h.1)
-  first_keeps number request.Stat a s t h = so_keeps None a (answer.Refused refusal.NoClient) s t h.0 (refused_keeps None refusal.NoClient s t h.1)
   first_keeps number request.Bye a s t h = so_keeps None a answer.Bye s t h.0 (bye_keeps None s t h.1)
+  first_keeps number r a s t h = so_keeps None a (answer.Refused refusal.NoClient) s t h.0 (refused_keeps None refusal.NoClient s t h.1)
 
   alloc_keeps : (id frames limit : ℕ) (result : Result Frames Refusal) (s t : State) → Allocs w id frames limit result s t → KeepsAlone w waiting (Some id) (alloc_answer result) old new s t
   alloc_keeps id frames limit result s t h m a =
@@ -157,7 +144,7 @@ module _ (law : StepsKeepValidity) (ledger : StepsMoveLedgers) (kind : StepsAreA
       → KeepsAlone w waiting (Some id) (release_answer result) old new s t
   release_keeps strict seat id lo number result before now s t mine d m a =
       subst (λ (c : Option ℕ). AloneIn w (with_client c waiting) None new t) (sym (stays result))
-      (all_pass law ledger kind w (id ∷ waiting) d.events None None old new s t (release_goes old new d.allowed.0 (release_lowers result old new m)) d.leads a)
+      (all_pass law ledger kind w (id ∷ waiting) id d.events None None old new s t (release_goes old new d.allowed.0 (release_lowers result old new m)) d.leads a)
     where
       stays : (x : Result Unmapped Refusal) → next_client (Some id) (release_answer x) ≡ Some id
       stays (Ok (unmapped.Queued r)) = refl
@@ -167,18 +154,12 @@ module _ (law : StepsKeepValidity) (ledger : StepsMoveLedgers) (kind : StepsAreA
   flush_keeps : (id v number : ℕ) (a : Answer) (before now : List Call) (s t : State) → FlushesAndDrains v a number before now s t → KeepsAlone w waiting (Some id) a old new s t
   flush_keeps id v number (answer.Flushed k freed) before now s t h m a =
       let e = shares_stay old new m in
-      let mid = all_pass law ledger kind w (id ∷ waiting) h.1.events None None old old s h.0 (flush_goes old h.1.allowed.0) h.1.leads a in
-      subst (λ (x : Totals). AloneIn w (id ∷ waiting) None x t) (sym e) (all_pass law ledger kind w (id ∷ waiting) h.2.events None None old old h.0 t (drain_all_goes old h.2.allowed) h.2.leads mid)
+      let mid = all_pass law ledger kind w (id ∷ waiting) id h.1.events None None old old s h.0 (flush_goes id old h.1.allowed.0) h.1.leads a in
+      subst (λ (x : Totals). AloneIn w (id ∷ waiting) None x t) (sym e) (all_pass law ledger kind w (id ∷ waiting) id h.2.events None None old old h.0 t (drain_all_goes id old h.2.allowed) h.2.leads mid)
   flush_keeps id v number (answer.Refused x) before now s t h m a =
       let e = shares_stay old new m in
-      subst (λ (y : Totals). AloneIn w (id ∷ waiting) None y t) (sym e) (all_pass law ledger kind w (id ∷ waiting) h.events None None old old s t (flush_goes old h.allowed.0) h.leads a)
-  flush_keeps id v number (answer.Opened n) before now s t h m a = absurd h
-  flush_keeps id v number (answer.Given r) before now s t h m a = absurd h
-  flush_keeps id v number (answer.Queued r) before now s t h m a = absurd h
-  flush_keeps id v number (answer.Freed r) before now s t h m a = absurd h
-  flush_keeps id v number (answer.Held rs) before now s t h m a = absurd h
-  flush_keeps id v number (answer.Stat x) before now s t h m a = absurd h
-  flush_keeps id v number answer.Bye before now s t h m a = absurd h
+      subst (λ (y : Totals). AloneIn w (id ∷ waiting) None y t) (sym e) (all_pass law ledger kind w (id ∷ waiting) id h.events None None old old s t (flush_goes id old h.allowed.0) h.leads a)
+  flush_keeps id v number x before now s t h m a = absurd h
 
   stat_keeps : (id : ℕ) (x : Stat) (s t : State) → t ≡ s → KeepsAlone w waiting (Some id) (answer.Stat x) old new s t
   stat_keeps id x s t same m a = alone_stays w (id ∷ waiting) old new s t (shares_stay old new m) same a
@@ -186,13 +167,7 @@ module _ (law : StepsKeepValidity) (ledger : StepsMoveLedgers) (kind : StepsAreA
   list_of_keeps : (id listed : ℕ) (held : List Frames) (a : Answer) (s t : State) → IsListOf held listed a → t ≡ s → KeepsAlone w waiting (Some id) a old new s t
   list_of_keeps id listed held (answer.Held rs) s t h same m a = alone_stays w (id ∷ waiting) old new s t (shares_stay old new m) same a
   list_of_keeps id listed held (answer.Refused x) s t h same m a = refused_keeps (Some id) x s t same m a
-  list_of_keeps id listed held (answer.Opened n) s t h same m a = absurd h
-  list_of_keeps id listed held (answer.Given r) s t h same m a = absurd h
-  list_of_keeps id listed held (answer.Queued r) s t h same m a = absurd h
-  list_of_keeps id listed held (answer.Freed r) s t h same m a = absurd h
-  list_of_keeps id listed held (answer.Flushed k freed) s t h same m a = absurd h
-  list_of_keeps id listed held (answer.Stat x) s t h same m a = absurd h
-  list_of_keeps id listed held answer.Bye s t h same m a = absurd h
+  list_of_keeps id listed held x s t h same m a = absurd h
 
   list_keeps : (id listed : ℕ) (o : Option Client) (a : Answer) (s t : State) → MatchOption o (a ≡ answer.Refused refusal.NoClient) (λ c. IsListOf c.holdings listed a) → t ≡ s → KeepsAlone w waiting (Some id) a old new s t
   list_keeps id listed None a s t h same = so_keeps (Some id) a (answer.Refused refusal.NoClient) s t h (refused_keeps (Some id) refusal.NoClient s t same)
@@ -253,7 +228,7 @@ module _ (law : StepsKeepValidity) (ledger : StepsMoveLedgers) (kind : StepsAreA
       let d = h.1 in
       let ends = subst (λ (v : ℕ). EndClient (step.CloseOne v id) seat.held left (left_of id t) l.ended d.events) mine d.allowed.0 in
       left_over id l.ended (still_waits l.ended) left t refl (λ over. over_is_gone law w id l.ended s t over ends a.valid d.leads)
-      (all_pass law ledger kind w (id ∷ waiting) d.events None None seat.held left s t (end_client_goes d.allowed.0) d.leads a)
+      (all_pass law ledger kind w (id ∷ waiting) id d.events None None seat.held left s t (end_client_goes d.allowed.0) d.leads a)
   departs_keep (Err e) seat left id held l number before now s t mine h a =
       let waits : still_waits l.ended ≡ true = ap still_waits h.1 in
       left_over id l.ended (still_waits l.ended) left t refl (λ over. absurd (let both : true ≡ false = sym waits ∙ over in cc)) (alone_stays w (id ∷ waiting) seat.held left s t h.2 h.4 a)
@@ -300,13 +275,10 @@ module _ (law : StepsKeepValidity) (ledger : StepsMoveLedgers) (kind : StepsAreA
 
       same_carries : (c d : Between) → d ≡ c → Carried c d
       same_carries c d e = subst (λ (x : Between). Carried c x) (sym e) (known_same c.domain c)
-  each_carries [] [] (e ∷ es) a b h = absurd h
-  each_carries [] (m ∷ ms) es a b h = absurd h
-  each_carries (l ∷ ls) [] es a b h = absurd h
-  each_carries (l ∷ ls) (m ∷ ms) [] a b h = absurd h
   each_carries (l ∷ ls) (m ∷ ms) (e ∷ es) a b h =
       ∥∥₁_elim (one_carries l m e a h.0 h.1) ∥∥₁_prop (λ x.
       ∥∥₁_map (each_carries ls ms es h.0 b h.2) (λ y. known_both a.domain h.0.domain b.domain (Carries a h.0) (Carries h.0 b) (Carries a b) x y (λ s m t p q alone. q (p alone))))
+  each_carries ls ms es a b h = absurd h
 
   -- whoever holds a range is one of those that wait, where it was so before
   pub each_stays_alone : (ls ms : List L) (es : List SessionEnd) (a b : Between) → ((s : State) → a.domain ≡ Some s → IsValid s) → ServesEach left sent reads strict number ls ms es a b

@@ -26,6 +26,7 @@ use Rattle.iova_keep.specs.Steps.{Takes}
 use Rattle.iova_keep.specs.Views.{begun_of}
 use Rattle.iova_session.specs.Gone.{IsOneOf, HasAtLeast}
 use Rattle.iova_session.proofs.Gone.{takes_valid}
+use Rattle.iova_session.proofs.Byes.{All-append}
 
 -- Clients.
 
@@ -50,10 +51,6 @@ forgotten_step P id x cs false e first rest further = rw e (first, further)
 forgotten_each : (P : Client → Type 0) (id : ℕ) (cs : List Client) → AllByRecursion P cs → AllByRecursion P (without_client id cs)
 forgotten_each P id [] each = tt
 forgotten_each P id (x ∷ cs) each = forgotten_step P id x cs (has_id id x) refl each.0 each.1 (forgotten_each P id cs each.1)
-
-one_more : (P : Client → Type 0) (c : Client) (cs : List Client) → AllByRecursion P cs → P c → AllByRecursion P (cs ++ c ∷ [])
-one_more P c [] each last = (last, tt)
-one_more P c (x ∷ cs) each last = (each.0, one_more P c cs each.1 last)
 
 some_before : (lo : ℕ) (rs : List Frames) → remove_at lo rs ≢ [] → rs ≢ []
 some_before lo [] some = some
@@ -146,7 +143,7 @@ module _ (w : ℕ) (ids : List ℕ) where
   open_kept : (s : State) (v : ℕ) (sac : Bool) (m : Point) → Keeps w ids s (Next.open_client s v sac m).state
   open_kept s v sac m =
       unless_cases (λ n. Keeps w ids s n.state) s (Next.open_tests s v m) _ (λ e. same_kept s)
-      (λ all. record { flushes = refl; holders = λ each. one_more (IsOneOf w ids) (new_client (s.serial + 1) v sac) s.clients each (λ some. absurd (some refl)) })
+      (λ all. record { flushes = refl; holders = λ each. All-append (IsOneOf w ids) s.clients (new_client (s.serial + 1) v sac ∷ []) each ((λ some. absurd (some refl)), tt) })
 
 -- Flushes.
 
@@ -195,22 +192,13 @@ both_same old new held left m l h = subst (λ (x : Totals). HasAtLeast x new) (s
 -- the shares still have at least all that is held
 still_enough : (r : Reply) (old new held left : Totals) → ((g : Frames) → r ≡ reply.Given g → ⊥) → MovesTotals r old new → Lowers (Some r) held left → HasAtLeast held old → HasAtLeast left new
 still_enough (reply.Queued q) old new held left other m l h =
-    let c = ap (λ (x : Totals). x.count) m in
-    let f = ap (λ (x : Totals). x.frames) m in
-    let a = ap (λ (x : Totals). x.sum_lo) m in
-    let d = ap (λ (x : Totals). x.count) l in
-    let g = ap (λ (x : Totals). x.frames) l in
-    let b = ap (λ (x : Totals). x.sum_lo) l in
-    record { count = omega (arith, c, d, h.count); frames = omega (arith, f, g, h.frames); sum_lo = omega (arith, a, b, h.sum_lo) }
+    record {
+      count = omega (arith, ap (λ (x : Totals). x.count) m, ap (λ (x : Totals). x.count) l, h.count);
+      frames = omega (arith, ap (λ (x : Totals). x.frames) m, ap (λ (x : Totals). x.frames) l, h.frames);
+      sum_lo = omega (arith, ap (λ (x : Totals). x.sum_lo) m, ap (λ (x : Totals). x.sum_lo) l, h.sum_lo);
+    }
 still_enough (reply.Given g) old new held left other m l h = absurd (other g refl)
-still_enough (reply.Reserved r) old new held left other m l h = both_same old new held left m l h
-still_enough (reply.Opened id) old new held left other m l h = both_same old new held left m l h
-still_enough (reply.Begun n) old new held left other m l h = both_same old new held left m l h
-still_enough reply.Ended old new held left other m l h = both_same old new held left m l h
-still_enough (reply.Drained n) old new held left other m l h = both_same old new held left m l h
-still_enough (reply.Marked n) old new held left other m l h = both_same old new held left m l h
-still_enough reply.Empty old new held left other m l h = both_same old new held left m l h
-still_enough (reply.Refused e) old new held left other m l h = both_same old new held left m l h
+still_enough r old new held left other m l h = both_same old new held left m l h
 
 -- A domain that is valid, where whoever holds a range is a client of the worker and one of these, a seat has at least the shares
 -- of all holdings, and no flush is in flight but this one.
@@ -220,13 +208,14 @@ pub record AloneIn (w : ℕ) (ids : List ℕ) (flying : Option ℕ) (held : Tota
   pub shares : HasAtLeast held (totals s.clients)
   pub flights : AreFlying flying s.flushes.in_flight
 
--- A step that gives no range: which flush is in flight alone and what the shares are before it, and after it.
-pub data Passes : Step → Reply → Option ℕ → Totals → Option ℕ → Totals → Type 0 where
-  unmaps : (v id lo : ℕ) (r : Reply) (o : Option ℕ) (held left : Totals) → Lowers (Some r) held left → Passes (step.Unmap v id lo) r o held o left
-  closes : (v id : ℕ) (r : Reply) (o : Option ℕ) (held left : Totals) → Lowers (Some r) held left → Passes (step.CloseOne v id) r o held o left
-  drains : (q by : ℕ) (r : Reply) (o : Option ℕ) (held : Totals) → Passes (step.Drain q by) r o held o held
-  begins : (r : Reply) (held : Totals) → Passes step.Begin r None held (begun_of (Some r)) held
-  ends : (n : ℕ) (ok : Bool) (r : Reply) (held : Totals) → Passes (step.End n ok) r (Some n) held None held
+-- A step that gives no range and names no client but this one: which flush is in flight alone and what the shares are before it,
+-- and after it.
+pub data Passes (id : ℕ) : Step → Reply → Option ℕ → Totals → Option ℕ → Totals → Type 0 where
+  unmaps : (v lo : ℕ) (r : Reply) (o : Option ℕ) (held left : Totals) → Lowers (Some r) held left → Passes id (step.Unmap v id lo) r o held o left
+  closes : (v : ℕ) (r : Reply) (o : Option ℕ) (held left : Totals) → Lowers (Some r) held left → Passes id (step.CloseOne v id) r o held o left
+  drains : (q by : ℕ) (r : Reply) (o : Option ℕ) (held : Totals) → Passes id (step.Drain q by) r o held o held
+  begins : (r : Reply) (held : Totals) → Passes id step.Begin r None held (begun_of (Some r)) held
+  ends : (n : ℕ) (ok : Bool) (r : Reply) (held : Totals) → Passes id (step.End n ok) r (Some n) held None held
 
 module _ (law : StepsKeepValidity) (ledger : StepsMoveLedgers) (kind : StepsAreAnsweredInKind) (w : ℕ) (ids : List ℕ) where
   step_moves : (s : State) (st : Step) (r : Reply) (t : State) (flying : Option ℕ) (held left : Totals) → Takes s st r t → Keeps w ids s t
@@ -260,11 +249,11 @@ module _ (law : StepsKeepValidity) (ledger : StepsMoveLedgers) (kind : StepsAreA
     flights = f.flying;
   }
 
-  pub step_passes : {st : Step} {r : Reply} {o p : Option ℕ} {held left : Totals} (s t : State) → Passes st r o held p left → Takes s st r t → AloneIn w ids o held s → AloneIn w ids p left t
+  pub step_passes : {id : ℕ} {st : Step} {r : Reply} {o p : Option ℕ} {held left : Totals} (s t : State) → Passes id st r o held p left → Takes s st r t → AloneIn w ids o held s → AloneIn w ids p left t
   unfolding Takes
-  step_passes s t (unmaps v id lo r o held left l) h a =
+  step_passes {id = id} s t (unmaps v lo r o held left l) h a =
       step_lowers s (step.Unmap v id lo) r t o held left (λ g no. no) h (subst (Keeps w ids s) (sym h.2) (unmap_kept w ids s v id lo)) l a
-  step_passes s t (closes v id r o held left l) h a =
+  step_passes {id = id} s t (closes v r o held left l) h a =
       step_lowers s (step.CloseOne v id) r t o held left (λ g no. no) h (subst (Keeps w ids s) (sym h.2) (close_one_kept w ids s v id)) l a
   step_passes s t (drains q by r o held) h a =
       step_flies s t o o held (takes_valid law s (step.Drain q by) r t a.valid h) (subst (Flies o s) (sym h.2) (drain_flies s q by o a.flights)) a

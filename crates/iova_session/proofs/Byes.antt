@@ -5,7 +5,7 @@ use Rattle.iova_proto.specs.declared.request.Request.{Request}
 use Rattle.iova_proto.specs.declared.request.Request.TheVariants as request
 use Rattle.iova_session.specs.Sessions.{HasNoBye, StopsAtBye, EndsInBye}
 
-pub All-append : (P : Request → Type 0) (rs qs : List Request) → AllByRecursion P rs → AllByRecursion P qs → AllByRecursion P (rs ++ qs)
+pub All-append : {A : Type 0} (P : A → Type 0) (rs qs : List A) → AllByRecursion P rs → AllByRecursion P qs → AllByRecursion P (rs ++ qs)
 All-append P [] qs h k = k
 All-append P (r ∷ rs) qs h k = (h.0, All-append P rs qs h.1 k)
 

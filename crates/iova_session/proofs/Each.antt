@@ -13,10 +13,13 @@ abbrev head_or : {L : Type 0} → L → List L → L
 head_or d [] = d
 head_or d (x ∷ xs) = x
 
-pub rest_after : {L : Type 0} (xs ys : List L) (at : ℕ) (d m : L) → at < length xs → at < length ys → drop at xs ≡ drop at ys → drop (at + 1) (slice_set xs at m) ≡ drop (at + 1) ys
-rest_after xs ys at d m lx ly e = drop-set-lt (at + 1) xs at m (omega arith) ∙ ap tail (sym (drop_more xs at d lx) ∙ e ∙ drop_more ys at d ly)
+pub drop_next : {L : Type 0} (xs ys : List L) (at : ℕ) (d : L) → at < length xs → at < length ys → drop at xs ≡ drop at ys → drop (at + 1) xs ≡ drop (at + 1) ys
+drop_next xs ys at d lx ly e = ap tail (sym (drop_more xs at d lx) ∙ e ∙ drop_more ys at d ly)
 
-same_there : {L : Type 0} (xs ys : List L) (at : ℕ) (d : L) → at < length xs → at < length ys → drop at xs ≡ drop at ys → get_or xs at d ≡ get_or ys at d
+pub rest_after : {L : Type 0} (xs ys : List L) (at : ℕ) (d m : L) → at < length xs → at < length ys → drop at xs ≡ drop at ys → drop (at + 1) (slice_set xs at m) ≡ drop (at + 1) ys
+rest_after xs ys at d m lx ly e = drop-set-lt (at + 1) xs at m (omega arith) ∙ drop_next xs ys at d lx ly e
+
+pub same_there : {L : Type 0} (xs ys : List L) (at : ℕ) (d : L) → at < length xs → at < length ys → drop at xs ≡ drop at ys → get_or xs at d ≡ get_or ys at d
 same_there xs ys at d lx ly e = ap (head_or d) (sym (drop_more xs at d lx) ∙ e ∙ drop_more ys at d ly)
 
 module _ {L : Type 0} (left sent : L → Option (List ℕ)) (reads : L → ℕ) (strict : Bool) (number : ℕ) where
@@ -29,11 +32,8 @@ module _ {L : Type 0} (left sent : L → Option (List ℕ)) (reads : L → ℕ) 
       → ServesEach left sent reads strict number (ls ++ l ∷ []) (ms ++ m ∷ []) (es ++ e ∷ []) a c
   unfolding ServesEach
   one_more [] [] [] l m e a b c h k = (c, subst (λ (x : Between). ServesOne strict number (left l) (left m) (sent l) (sent m) (reads l) (reads m) e x c) h k, refl)
-  one_more [] [] (z ∷ es) l m e a b c h k = absurd h
-  one_more [] (y ∷ ms) es l m e a b c h k = absurd h
-  one_more (x ∷ ls) [] es l m e a b c h k = absurd h
-  one_more (x ∷ ls) (y ∷ ms) [] l m e a b c h k = absurd h
   one_more (x ∷ ls) (y ∷ ms) (z ∷ es) l m e a b c h k = (h.0, h.1, one_more ls ms es l m e h.0 b c h.2 k)
+  one_more ls ms es l m e a b c h k = absurd h
 
   -- The link at a place is the one that was there at first.
   pub next_served : (ls ms : List L) (es : List SessionEnd) (at : ℕ) (d m : L) (e : SessionEnd) (a b c : Between) (here : Bool) (there : ℕ) → at < length ls → at < length ms

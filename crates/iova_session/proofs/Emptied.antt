@@ -1,5 +1,5 @@
 -- A round of tries where nobody else holds a range and no call of the sink fails: each client that waits ends, and nobody holds anything.
-use Rattle.std.proofs.Common.{ℕ, zero, suc, ◌≡◌, ◌≢◌, ◌<◌, ◌≤◌, ◌⊎◌, inl, inr, Bool, true, false, List, [], ◌∷◌, ◌++◌, Option, Some, None, refl, sym, ap, ◌∙◌, subst, arith, length}
+use Rattle.std.proofs.Common.{ℕ, zero, suc, ◌≡◌, ◌≢◌, ◌+◌, ◌<◌, ◌≤◌, ◌⊎◌, inl, inr, Bool, true, false, List, [], ◌∷◌, ◌++◌, Option, Some, None, refl, sym, ap, ◌∙◌, subst, arith, length}
 use Rattle.std.specs.Prelude.{Result, Ok, Err, Contains, IfSome, slice_index_or, option_and_then}
 use Rattle.std.specs.List.{AllByRecursion}
 use Rattle.std.proofs.Math.Logic.{∥∥₁_map}
@@ -11,7 +11,7 @@ use Rattle.iova_model.specs.State.{State}
 use Rattle.iova_model.specs.Valid.{SerialsRise}
 use Rattle.iova_model.specs.Laws.{StepsKeepValidity}
 use Rattle.iova_sink.specs.declared.sink.SinkFault.{SinkFault}
-use Rattle.iova_sink.specs.Calls.{Call, Gone, failed_calls}
+use Rattle.iova_sink.specs.Calls.{Call, Gone, good_in, good_calls, failed_calls}
 use Rattle.iova_keep.specs.Views.{SeatState, WhereKnown, IsKept}
 use Rattle.iova_session.specs.declared.leaving.Leaving.{Leaving}
 use Rattle.iova_session.specs.declared.leaving.Attempt.{Attempt}
@@ -122,6 +122,15 @@ after_end w id ids s t rise each (inr h) =
     }
 
 -- The calls of the sink.
+
+good_gone : (calls : List Call) (domain client : ℕ) (ranges : List Frames) (answer : Result Unit SinkFault) → good_calls (calls ++ Gone domain client ranges answer ∷ []) ≡ good_calls calls
+good_gone [] domain client ranges answer = refl
+good_gone (c ∷ cs) domain client ranges answer = ap (λ n. good_in c + n) (good_gone cs domain client ranges answer)
+
+-- no call of a client that is gone is a flush that ended well
+pub told_good : (number id : ℕ) (held : List Frames) (answer : Result Unit SinkFault) (before now : List Call) → IsTold number id held answer before now → good_calls now ≡ good_calls before
+told_good number id [] answer before now h = ap good_calls h.1
+told_good number id (r ∷ rs) answer before now h = ap good_calls h ∙ good_gone before number id (r ∷ rs) answer
 
 told_rises : (number id : ℕ) (held : List Frames) (answer : Result Unit SinkFault) (before now : List Call) → IsTold number id held answer before now → failed_calls before ≤ failed_calls now
 told_rises number id [] answer before now h = let e = ap failed_calls h.1 in omega (arith, e)

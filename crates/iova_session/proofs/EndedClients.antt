@@ -1,14 +1,12 @@
 -- The end of a session's client.
-use Rattle.std.proofs.Common.{ℕ, ◌≡◌, ◌+◌, List, [], ◌∷◌, ◌++◌, Option, Some, None, refl, sym, ap, ◌∙◌, arith, subst}
+use Rattle.std.proofs.Common.{ℕ, ◌≡◌, ◌+◌, List, [], ◌∷◌, Option, Some, None, refl, sym, ap, ◌∙◌, arith, subst}
 use Rattle.std.proofs.Common.{append-nil}
 use Rattle.std.specs.Io.KnownBytes.{Consumes, Appends}
-use Rattle.std.specs.Prelude.{Result, Ok, IsSome}
-use Rattle.iova_range.specs.declared.refusal.Refusal.{Refusal}
+use Rattle.std.specs.Prelude.{Ok, IsSome}
 use Rattle.iova_keep.specs.Views.{LowersTold}
 use Rattle.iova_model.specs.declared.totals.Totals.{Totals}
 use Rattle.iova_keep.specs.declared.ending.Ending.{Ending}
 use Rattle.iova_keep.specs.declared.ending.Ending.TheVariants as ending
-use Rattle.iova_keep.specs.declared.ending.Why.{Why}
 use Rattle.iova_proto.specs.declared.answer.Answer.{Answer}
 use Rattle.iova_proto.specs.declared.answer.Answer.TheVariants as answer
 use Rattle.iova_proto.specs.declared.request.Request.{Request}
@@ -17,31 +15,18 @@ use Rattle.iova_session.specs.declared.end.End.TheVariants as ends
 use Rattle.iova_session.specs.Sessions.{ServesWithin, StopsAtBye}
 use Rattle.iova_session.specs.Pairs.{Pair, requests_of, answers_of, requests_text, answers_text}
 use Rattle.iova_session.specs.Desks.{client_after, given_in, taken_in, given_by, taken_by, MovesBy, AreAnswers, IsFirstAnswer, next_client, count_listed}
-use Rattle.iova_session.specs.Leaving.{still_waits}
-use Rattle.iova_session.specs.Posts.{EndsClientOf, EndsClient, EndsFrom, kept_if}
-
--- one that has ended isn't on the list
-not_listed : (id : ℕ) (r : Result Ending Refusal) (queued : ℕ) (was now : List ℕ) → r ≡ Ok (ending.Ended queued) → now ≡ was ++ kept_if (still_waits r) id → now ≡ was
-not_listed id r queued was now is h = subst (λ (x : Result Ending Refusal). now ≡ was ++ kept_if (still_waits x) id) is h ∙ append-nil was
-
--- and one that waits is its last
-listed : (id : ℕ) (r : Result Ending Refusal) (left : ℕ) (why : Why) (was now : List ℕ) → r ≡ Ok (ending.Waiting left why) → now ≡ was ++ kept_if (still_waits r) id → now ≡ was ++ id ∷ []
-listed id r left why was now is h = subst (λ (x : Result Ending Refusal). now ≡ was ++ kept_if (still_waits x) id) is h
-
--- it queued as many ranges as it counted
-queued_count : (r : Result Ending Refusal) (queued : ℕ) (old new : Totals) → r ≡ Ok (ending.Ended queued) → LowersTold r old new → old.count ≡ new.count + queued
-queued_count r queued old new is h =
-    let l : LowersTold (Ok (ending.Ended queued)) old new = subst (λ (x : Result Ending Refusal). LowersTold x old new) is h in
-    let k = ap (λ (t : Totals). t.count) l.1 in omega (arith, k, l.2)
+use Rattle.iova_session.specs.Posts.{EndsClientOf, EndsClient, EndsFrom}
+use Rattle.iova_session.proofs.ToldPairs.{shares_stay}
 
 ended : (id : ℕ) (ps : List Pair) (told : Option Ending) (old held new : Totals) (was now : List ℕ) → MovesBy (given_in ps) (taken_in ps) old held → EndsFrom id told (Some old) held new was now
     → EndsClientOf (Some id) ps told old new was now
-ended id ps (Some (ending.Ended queued)) old held new was now moved ends = (
-  ends.2.1,
-  (let m = ap (λ (t : Totals). t.count) moved in let n = ap (λ (t : Totals). t.count) ends.2.1 in let q = queued_count ends.0 queued held new ends.2.0 ends.1 in omega (arith, m, n, q)),
-  not_listed id ends.0 queued was now ends.2.0 ends.3,
-)
-ended id ps (Some (ending.Waiting left why)) old held new was now moved ends = (ends.2.1, listed id ends.0 left why was now ends.2.0 ends.3)
+ended id ps (Some (ending.Ended queued)) old held new was now moved ends =
+    let l : LowersTold (Ok (ending.Ended queued)) held new = rw ends.2.0 at ends.1 in (
+      ends.2.1,
+      (let m = ap (λ (t : Totals). t.count) moved in let n = ap (λ (t : Totals). t.count) ends.2.1 in let k = ap (λ (t : Totals). t.count) l.1 in omega (arith, m, n, k, l.2)),
+      (rw ends.2.0 at ends.3) ∙ append-nil was,
+    )
+ended id ps (Some (ending.Waiting left why)) old held new was now moved ends = (ends.2.1, rw ends.2.0 at ends.3)
 ended id ps None old held new was now moved ends = (held, moved, ends)
 
 -- what its end says, with the pairs before it
@@ -54,30 +39,12 @@ ended_opened id ps opened told old held new was now e some moved ends =
 nothing_first : (number : ℕ) (r : Request) (a : Answer) → IsFirstAnswer number r a → next_client None a ≡ None → (given_by a ≡ []) × (taken_by a ≡ [])
 nothing_first number (request.Hello domain sac) (answer.Opened id) h e = absurd cc
 nothing_first number (request.Hello domain sac) (answer.Refused x) h e = (refl, refl)
-nothing_first number (request.Hello domain sac) (answer.Given q) h e = absurd h
-nothing_first number (request.Hello domain sac) (answer.Queued q) h e = absurd h
-nothing_first number (request.Hello domain sac) (answer.Freed q) h e = absurd h
-nothing_first number (request.Hello domain sac) (answer.Held q) h e = absurd h
-nothing_first number (request.Hello domain sac) (answer.Flushed n freed) h e = absurd h
-nothing_first number (request.Hello domain sac) (answer.Stat x) h e = absurd h
-nothing_first number (request.Hello domain sac) answer.Bye h e = absurd h
-nothing_first number (request.Alloc frames limit) a h e = (ap given_by h, ap taken_by h)
-nothing_first number (request.Free lo) a h e = (ap given_by h, ap taken_by h)
-nothing_first number request.List a h e = (ap given_by h, ap taken_by h)
-nothing_first number request.Flush a h e = (ap given_by h, ap taken_by h)
-nothing_first number request.Stat a h e = (ap given_by h, ap taken_by h)
-nothing_first number request.Bye a h e = (ap given_by h, ap taken_by h)
+nothing_first number (request.Hello domain sac) a h e = absurd h
+nothing_first number r a h e = (ap given_by h, ap taken_by h)
 
 still_some : (o : Option ℕ) (a : Answer) → IsSome o → IsSome (next_client o a)
 still_some o (answer.Opened id) some = refl
-still_some o (answer.Given q) some = some
-still_some o (answer.Queued q) some = some
-still_some o (answer.Freed q) some = some
-still_some o (answer.Held q) some = some
-still_some o (answer.Flushed n freed) some = some
-still_some o (answer.Stat x) some = some
-still_some o answer.Bye some = some
-still_some o (answer.Refused x) some = some
+still_some o a some = some
 
 -- a session that has a client keeps one
 some_after : (o : Option ℕ) (ps : List Pair) → IsSome o → client_after o ps ≡ None → ⊥
@@ -104,12 +71,7 @@ pub none_opened : (number : ℕ) (ps : List Pair) (opened : Option ℕ) (old new
 none_opened number ps opened old new was e none answers moved =
     let n = nothing_moved number 0 ps answers (sym e ∙ none) in
     let m = rw (n.0, n.1) at moved in
-    let same : new ≡ old =
-    let count : new.count ≡ old.count = let c = ap (λ (t : Totals). t.count) m in omega (arith, c) in
-    let frames : new.frames ≡ old.frames = let c = ap (λ (t : Totals). t.frames) m in omega (arith, c) in
-    let sum_lo : new.sum_lo ≡ old.sum_lo = let c = ap (λ (t : Totals). t.sum_lo) m in omega (arith, c) in
-    λ i. record { count = count i; frames = frames i; sum_lo = sum_lo i } in
-    subst (λ (o : Option ℕ). EndsClientOf o ps None old new was was) (sym none ∙ e) (refl, same, refl)
+    subst (λ (o : Option ℕ). EndsClientOf o ps None old new was was) (sym none ∙ e) (refl, shares_stay old new m, refl)
 
 -- a session of which nothing was read
 pub nothing_served : (most bound : ℕ) → ServesWithin most bound [] [] [] 0 ends.NoMemory

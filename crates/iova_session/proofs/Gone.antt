@@ -24,7 +24,7 @@ use Rattle.iova_keep.specs.declared.ending.Ending.TheVariants as ending
 use Rattle.iova_keep.specs.Steps.{Takes}
 use Rattle.iova_keep.specs.Views.{IsUnknown}
 use Rattle.iova_session.specs.Leaving.{still_waits}
-use Rattle.iova_keep.specs.Events.{Event, Ran, NotRun, Invalidated, Leads, run, not_run, Closing, stops, queues, CloseFirst, closed, closed_full, CloseAgain, closed_again, full_at_once, full_again, CloseRest, last, another, Answered, ended, unknown, gone, share, sink_failed, overlap, flights_full, worn, EndClient, in_one_hold, in_more}
+use Rattle.iova_keep.specs.Events.{Event, Ran, NotRun, Invalidated, Leads, run, not_run, Closing, stops, queues, CloseFirst, closed, closed_full, CloseAgain, closed_again, full_at_once, full_again, CloseRest, last, another, Answered, ended, unknown, gone, EndClient, in_one_hold, in_more}
 
 -- what is at most the lower bound is no client's serial
 none_below : (id low : ℕ) (clients : List Client) (top : ℕ) → SerialsRise low clients top → id ≤ low → client_with id clients ≡ None
@@ -55,48 +55,27 @@ full_is_known e u same = let h = same ∙ ap reply.Refused u in cc
 short_is_known : (e : Refusal) → IsUnknown e → ◌≡◌ {A = Reply} (reply.Refused refusal.NotHeld) (reply.Refused e) → ⊥
 short_is_known e u same = let h = same ∙ ap reply.Refused u in cc
 
--- What the reply to a closing says of the client: gone where it is `Empty`, there where a range was queued or the ring is
--- full; and it is known where it was there.
-record Says (w id : ℕ) (s : State) (r : Reply) (t : State) : Type 0 where
-  gone : r ≡ reply.Empty → client_with id t.clients ≡ None
-  queued : (q : Frames) → r ≡ reply.Queued q → IsThere w id t
-  full : r ≡ reply.Refused refusal.RingFull → IsThere w id t
-  known : IsThere w id s → (e : Refusal) → IsUnknown e → r ≡ reply.Refused e → ⊥
+-- What the reply to a closing says of the client: gone where it is `Empty`, none of the worker's where it is refused by
+-- `NoClient`, there where a range was queued or the ring is full; and it is known where it was there.
+abbrev Says : ℕ → ℕ → State → Reply → State → Type 0
+Says w id s reply.Empty t = client_with id t.clients ≡ None
+Says w id s (reply.Queued q) t = IsThere w id t
+Says w id s (reply.Refused e) t = (e ≡ refusal.RingFull → IsThere w id t) × (e ≡ refusal.NoClient → client_of w id t.clients ≡ None) × (IsThere w id s → IsUnknown e → ⊥)
+Says w id s r t = Unit {0}
 
 module _ (s : State) (w id : ℕ) (rise : SerialsRise 0 s.clients s.serial) where
   no_worker_says : Next.no_worker s w ≡ true → Says w id s (reply.Refused refusal.NoWorker) s
-  no_worker_says b = record {
-    gone = λ e. absurd cc;
-    queued = λ q e. absurd cc;
-    full = λ e. absurd cc;
-    known = λ there e u same. let both : true ≡ false = sym b ∙ there.worker in cc;
-  }
+  no_worker_says b = ((λ e. absurd cc), (λ e. absurd cc), (λ there u. let both : true ≡ false = sym b ∙ there.worker in cc))
 
   no_client_says : client_of w id s.clients ≡ None → Says w id s (reply.Refused refusal.NoClient) s
-  no_client_says none = record {
-    gone = λ e. absurd cc;
-    queued = λ q e. absurd cc;
-    full = λ e. absurd cc;
-    known = λ there e u same. let both : None ≡ Some there.client = sym none ∙ found_there w id s there in cc;
-  }
-
-  empty_says : Says w id s reply.Empty (Next.with_clients s (without_client id s.clients))
-  empty_says = record {
-    gone = λ e. forgotten_is_gone id 0 s.clients s.serial rise;
-    queued = λ q e. absurd cc;
-    full = λ e. absurd cc;
-    known = λ there e u same. cc;
-  }
+  no_client_says none = ((λ e. absurd cc), (λ e. none), (λ there u. let both : None ≡ Some there.client = sym none ∙ found_there w id s there in cc))
 
   full_says : (t : State) → IsThere w id t → Says w id s (reply.Refused refusal.RingFull) t
-  full_says t there = record { gone = λ e. absurd cc; queued = λ q e. absurd cc; full = λ e. there; known = λ was e u same. full_is_known e u same }
-
-  queued_says : (t : State) (r : Frames) → IsThere w id t → Says w id s (reply.Queued r) t
-  queued_says t r there = record { gone = λ e. absurd cc; queued = λ q e. there; full = λ e. absurd cc; known = λ was e u same. cc }
+  full_says t there = ((λ e. there), (λ e. absurd cc), (λ was u. full_is_known refusal.RingFull u refl))
 
   lowest_says : (c : Client) → client_of w id s.clients ≡ Some c → Next.no_worker s w ≡ false → (rs : List Frames)
       → Says w id s (Next.close_lowest rs s w id).reply (Next.close_lowest rs s w id).state
-  lowest_says c is worker [] = empty_says
+  lowest_says c is worker [] = forgotten_is_gone id 0 s.clients s.serial rise
   lowest_says c is worker (r ∷ rs) =
       let own = owned w id s.clients c is in
       let m = Next.with_clients s (change_client id with_mark s.clients) in
@@ -104,8 +83,7 @@ module _ (s : State) (w id : ℕ) (rise : SerialsRise 0 s.clients s.serial) wher
       let now : client_with id (change_client id with_mark s.clients) ≡ Some (with_mark c) = changed_found id with_mark c s.clients own.is refl in
       cond_both (nat_le MAX_ENTRIES (length (Next.ring_at d w))) (Next.refuse_step refusal.RingFull m) (record { reply = reply.Queued r; state = Next.with_entry d w id r }) (λ n. Says w id s n.reply n.state)
       (λ b. full_says m (record { client = with_mark c; is = now; mine = own.worker; worker = worker }))
-      (λ b. queued_says (Next.with_entry d w id r) r
-      (record { client = without_holding r.lo (with_mark c); is = changed_found id (without_holding r.lo) (with_mark c) (change_client id with_mark s.clients) now refl; mine = own.worker; worker = worker }))
+      (λ b. record { client = without_holding r.lo (with_mark c); is = changed_found id (without_holding r.lo) (with_mark c) (change_client id with_mark s.clients) now refl; mine = own.worker; worker = worker })
 
   client_says : (o : Option Client) → client_of w id s.clients ≡ o → Next.no_worker s w ≡ false
       → Says w id s (Next.close_one_of o s w id).reply (Next.close_one_of o s w id).state
@@ -150,38 +128,42 @@ record Hears (w id : ℕ) (s : State) (o : Option Reply) (held left : Totals) (t
   valid : IsValid t
   gone : o ≡ Some reply.Empty → client_with id t.clients ≡ None
   full : o ≡ Some (reply.Refused refusal.RingFull) → IsThere w id t
+  unknown : o ≡ Some (reply.Refused refusal.NoClient) → client_of w id t.clients ≡ None
   same : (e : Refusal) → IsUnknown e → o ≡ Some (reply.Refused e) → left ≡ held
   known : IsThere w id s → (e : Refusal) → IsUnknown e → o ≡ Some (reply.Refused e) → ⊥
 
-some_reply : {a b : Reply} → Some a ≡ Some b → a ≡ b
+pub some_reply : {a b : Reply} → Some a ≡ Some b → a ≡ b
 some_reply e = cc
 
 module _ (law : StepsKeepValidity) (w id : ℕ) where
   closing_hears : {held left : Totals} {r : Reply} {es : List Event} (s t : State) → Closing (step.CloseOne w id) held left r es → IsValid s → Leads s es t → Hears w id s (Some r) held left t
   closing_hears s t (stops held left r es even other (run q)) valid l =
-      let there = takes_says s w id r l.0 valid l.1 in
+      let there : (q : Reply) → r ≡ q → Says w id s q l.0 = λ q e. subst (λ (x : Reply). Says w id s x l.0) e (takes_says s w id r l.0 valid l.1) in
       let now = takes_valid law s (step.CloseOne w id) r l.0 valid l.1 in
       subst (λ x. Hears w id s (Some r) held left x) (sym l.2) (record {
         valid = now;
-        gone = λ e. there.gone (some_reply e);
-        full = λ e. there.full (some_reply e);
+        gone = λ e. there reply.Empty (some_reply e);
+        full = λ e. (there (reply.Refused refusal.RingFull) (some_reply e)).0 refl;
+        unknown = λ e. (there (reply.Refused refusal.NoClient) (some_reply e)).1 refl;
         same = λ e u is. even;
-        known = λ was e u is. there.known was e u (some_reply is);
+        known = λ was e u is. (there (reply.Refused e) (some_reply is)).2 was u;
       })
   closing_hears s t (stops held left r es even other not_run) valid l = record {
     valid = subst IsValid (sym l.1) valid;
     gone = λ e. absurd cc;
     full = λ e. absurd cc;
+    unknown = λ e. absurd cc;
     same = λ e u is. even;
     known = λ was e u is. short_is_known e u (some_reply is);
   }
   closing_hears s t (queues held mid left q r es sum k) valid l =
-      let there = (takes_says s w id (reply.Queued q) l.0 valid l.1).queued q refl in
+      let there = takes_says s w id (reply.Queued q) l.0 valid l.1 in
       let rest = closing_hears l.0 t k (takes_valid law s (step.CloseOne w id) (reply.Queued q) l.0 valid l.1) l.2 in
       record {
         valid = rest.valid;
         gone = rest.gone;
         full = rest.full;
+        unknown = rest.unknown;
         same = λ e u is. absurd (rest.known there e u is);
         known = λ was e u is. rest.known there e u is;
       }
@@ -196,6 +178,7 @@ module _ (law : StepsKeepValidity) (w id : ℕ) where
         valid = takes_valid law h.0 step.Begin begin h.2.0 before.valid h.2.1;
         gone = λ e. absurd cc;
         full = λ e. begin_there h.0 w id begin h.2.0 h.2.1 (before.full refl);
+        unknown = λ e. absurd cc;
         same = before.same;
         known = before.known;
       })
@@ -210,6 +193,7 @@ module _ (law : StepsKeepValidity) (w id : ℕ) where
     valid = rest.valid;
     gone = rest.gone;
     full = rest.full;
+    unknown = rest.unknown;
     same = rest.same;
     known = λ was e u is. rest.known (end_there s w id n ok end m h was) e u is;
   }
@@ -225,10 +209,11 @@ module _ (law : StepsKeepValidity) (w id : ℕ) where
   -- what all further holds say of a client that was there
   record Rests (o : Option Reply) (t : State) : Type 0 where
     gone : o ≡ Some reply.Empty → client_with id t.clients ≡ None
+    unknown : o ≡ Some (reply.Refused refusal.NoClient) → client_of w id t.clients ≡ None
     known : (e : Refusal) → IsUnknown e → o ≡ Some (reply.Refused e) → ⊥
 
   rest_hears : {n : ℕ} {held left : Totals} {ok : Bool} {o b : Option Reply} {es : List Event} (s t : State) → CloseRest (step.CloseOne w id) n held left ok o b es → IsValid s → IsThere w id s → Leads s es t → Rests o t
-  rest_hears s t (last n ok held left o b es k) valid there l = let h = again_hears s t k valid l in record { gone = h.gone; known = h.known there }
+  rest_hears s t (last n ok held left o b es k) valid there l = let h = again_hears s t k valid l in record { gone = h.gone; unknown = h.unknown; known = h.known there }
   rest_hears s t (another n m ok well held mid left o b es fs a c) valid there l =
       let split = leads_split es fs s t l in
       let h = again_hears s split.0 a valid split.1 in
@@ -239,11 +224,7 @@ module _ (law : StepsKeepValidity) (w id : ℕ) where
   answered_gone e ended f g = f refl
   answered_gone e (unknown x known none) f g = absurd cc
   answered_gone e (gone x known some) f g = absurd (g x known some refl)
-  answered_gone e share f g = absurd cc
-  answered_gone e (sink_failed s) f g = absurd cc
-  answered_gone e (overlap s) f g = absurd cc
-  answered_gone e flights_full f g = absurd cc
-  answered_gone e worn f g = absurd cc
+  answered_gone e a f g = absurd cc
 
   more_than_none : {held left : Totals} (queued : ℕ) → held.count ≡ left.count + queued → 1 ≤ queued → left ≡ held → ⊥
   more_than_none queued sum some even = let c = ap (λ (x : Totals). x.count) even in omega (arith, sum, some, c)
@@ -259,76 +240,23 @@ module _ (law : StepsKeepValidity) (w id : ℕ) where
       let rest = rest_hears split.0 t r h.valid (h.full refl) split.2 in
       answered_gone is a rest.gone (λ e u some same. rest.known e u same)
 
--- A client that isn't known where its closing stops.
-
-module _ (w id : ℕ) where
-  lowest_known : (s : State) (rs : List Frames) → (Next.close_lowest rs s w id).reply ≡ reply.Refused refusal.NoClient → ⊥
-  lowest_known s [] = λ e. cc
-  lowest_known s (r ∷ rs) =
-      let m = Next.with_clients s (change_client id with_mark s.clients) in
-      let d = Next.after_drain m w w in
-      cond_both (nat_le MAX_ENTRIES (length (Next.ring_at d w))) (Next.refuse_step refusal.RingFull m) (record { reply = reply.Queued r; state = Next.with_entry d w id r }) (λ n. n.reply ≡ reply.Refused refusal.NoClient → ⊥)
-      (λ b e. cc)
-      (λ b e. cc)
-
-  -- not the worker's
-  abbrev Unknown : Next.Next → Type 0
-  Unknown n = n.reply ≡ reply.Refused refusal.NoClient → client_of w id n.state.clients ≡ None
-
-  client_unknown : (s : State) (o : Option Client) → client_of w id s.clients ≡ o → Unknown (Next.close_one_of o s w id)
-  client_unknown s None is = λ e. is
-  client_unknown s (Some c) is = λ e. absurd (lowest_known s c.holdings e)
-
-  close_unknown : (s : State) → Unknown (Next.close_one s w id)
-  close_unknown s =
-      cond_both (Next.no_worker s w) (Next.refuse_step refusal.NoWorker s) (Next.close_one_of (client_of w id s.clients) s w id) (λ n. Unknown n)
-      (λ b e. absurd cc) (λ b. client_unknown s (client_of w id s.clients) refl)
-
-  takes_unknown : (s : State) (r : Reply) (t : State) → r ≡ reply.Refused refusal.NoClient → Takes s (step.CloseOne w id) r t → client_of w id t.clients ≡ None
-  unfolding Takes
-  takes_unknown s r t e h = ap (λ (x : State). client_of w id x.clients) h.2 ∙ close_unknown s (sym h.1 ∙ e)
-
-  closing_unknown : {held left : Totals} {r : Reply} {es : List Event} (s t : State) → Closing (step.CloseOne w id) held left r es → r ≡ reply.Refused refusal.NoClient → Leads s es t → client_of w id t.clients ≡ None
-  closing_unknown s t (stops held left r es even other (run q)) e l = ap (λ (x : State). client_of w id x.clients) l.2 ∙ takes_unknown s r l.0 e l.1
-  closing_unknown s t (stops held left r es even other not_run) e l = absurd cc
-  closing_unknown s t (queues held mid left q r es sum k) e l = closing_unknown l.0 t k e l.2
-
-  first_unknown : {held left : Totals} {o b : Option Reply} {es : List Event} (s t : State) → CloseFirst (step.CloseOne w id) held left o b es → o ≡ Some (reply.Refused refusal.NoClient) → Leads s es t
-      → client_of w id t.clients ≡ None
-  first_unknown s t (closed r es other k) e l = closing_unknown s t k (some_reply e) l
-  first_unknown s t (closed_full begin es k) e l = absurd cc
-
-  again_unknown : {n : ℕ} {ok : Bool} {held left : Totals} {o b : Option Reply} {es : List Event} (s t : State) → CloseAgain (step.CloseOne w id) n ok held left o b es → o ≡ Some (reply.Refused refusal.NoClient)
-      → Leads s es t → client_of w id t.clients ≡ None
-  again_unknown s t (closed_again end r es other k) e l = closing_unknown l.0 t k (some_reply e) l.2
-  again_unknown s t (full_at_once end es even k) e l = absurd cc
-  again_unknown s t (full_again end begin es less k) e l = absurd cc
-
-  rest_unknown : {n : ℕ} {held left : Totals} {ok : Bool} {o b : Option Reply} {es : List Event} (s t : State) → CloseRest (step.CloseOne w id) n held left ok o b es → o ≡ Some (reply.Refused refusal.NoClient)
-      → Leads s es t → client_of w id t.clients ≡ None
-  rest_unknown s t (last n ok held left o b es k) e l = again_unknown s t k e l
-  rest_unknown s t (another n m ok well held mid left o b es fs a c) e l = let split = leads_split es fs s t l in rest_unknown split.0 t c e split.2
-
   answered_unknown : {queued left : ℕ} {flushed : Option Bool} {o b : Option Reply} {result : Result Ending Refusal} (x : Refusal) → result ≡ Err x → Answered queued left flushed o b result
       → o ≡ Some (reply.Refused refusal.NoClient)
   answered_unknown x e ended = absurd cc
   answered_unknown x e (unknown y known none) = ap (λ (z : Refusal). Some (reply.Refused z)) known
-  answered_unknown x e (gone y known some) = absurd cc
-  answered_unknown x e share = absurd cc
-  answered_unknown x e (sink_failed f) = absurd cc
-  answered_unknown x e (overlap f) = absurd cc
-  answered_unknown x e flights_full = absurd cc
-  answered_unknown x e worn = absurd cc
+  answered_unknown x e a = absurd cc
 
-  end_unknown : {held left : Totals} {remains : ℕ} {result : Result Ending Refusal} {es : List Event} (x : Refusal) (s t : State) → result ≡ Err x → EndClient (step.CloseOne w id) held left remains result es → Leads s es t
-      → client_of w id t.clients ≡ None
-  end_unknown x s t e (in_one_hold queued o b result es sum c a) l = first_unknown s t c (answered_unknown x e a) l
-  end_unknown x s t e (in_more queued n ok mid o b result es fs sum c r a) l =
-      let split = leads_split es fs s t l in rest_unknown split.0 t r (answered_unknown x e a) split.2
+  end_unknown : {held left : Totals} {remains : ℕ} {result : Result Ending Refusal} {es : List Event} (x : Refusal) (s t : State) → result ≡ Err x → EndClient (step.CloseOne w id) held left remains result es → IsValid s
+      → Leads s es t → client_of w id t.clients ≡ None
+  end_unknown x s t e (in_one_hold queued o b result es sum c a) valid l = (first_hears s t c valid l).unknown (answered_unknown x e a)
+  end_unknown x s t e (in_more queued n ok mid o b result es fs sum c r a) valid l =
+      let split = leads_split es fs s t l in
+      let h = first_hears s split.0 c valid split.1 in
+      (rest_hears split.0 t r h.valid (h.full refl) split.2).unknown (answered_unknown x e a)
 
 -- A client whose end is over is no client of the worker's.
 pub over_is_gone : StepsKeepValidity → (w id : ℕ) {held left : Totals} {remains : ℕ} {es : List Event} (result : Result Ending Refusal) (s t : State) → still_waits result ≡ false
     → EndClient (step.CloseOne w id) held left remains result es → IsValid s → Leads s es t → client_of w id t.clients ≡ None
 over_is_gone law w id (Ok (ending.Ended q)) s t over h valid l = ap (λ o. option_and_then (if_owned w) o) (ended_is_gone law w id s t refl h valid l)
 over_is_gone law w id (Ok (ending.Waiting left why)) s t over h valid l = absurd cc
-over_is_gone law w id (Err x) s t over h valid l = end_unknown w id x s t refl h l
+over_is_gone law w id (Err x) s t over h valid l = end_unknown law w id x s t refl h valid l

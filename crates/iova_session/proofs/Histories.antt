@@ -66,34 +66,20 @@ reaches_all (Invalidated n ok ∷ es) s t h = reaches_all es s t h
 first_reaches : (number w : ℕ) (r : Request) (a : Answer) (s t : State) → FirstDoes number w r a s t → Reaches s t
 first_reaches number w (request.Hello domain sac) a s t (inl h) = reaches_same s t h.2
 first_reaches number w (request.Hello domain sac) a s t (inr h) = reaches_step s _ _ t h.1.1
-first_reaches number w (request.Alloc frames limit) a s t h = reaches_same s t h.1
-first_reaches number w (request.Free lo) a s t h = reaches_same s t h.1
-first_reaches number w request.List a s t h = reaches_same s t h.1
-first_reaches number w request.Flush a s t h = reaches_same s t h.1
-first_reaches number w request.Stat a s t h = reaches_same s t h.1
-first_reaches number w request.Bye a s t h = reaches_same s t h.1
+first_reaches number w r a s t h = reaches_same s t h.1
 
 flushes_reach : (w : ℕ) (a : Answer) (number : ℕ) (before now : List Call) (s t : State) → FlushesAndDrains w a number before now s t → Reaches s t
 flushes_reach w (answer.Flushed k freed) number before now s t h =
     reaches_then s h.0 t (reaches_all h.1.events s h.0 h.1.leads) (reaches_all h.2.events h.0 t h.2.leads)
 flushes_reach w (answer.Refused e) number before now s t h = reaches_all h.events s t h.leads
-flushes_reach w (answer.Opened id) number before now s t h = absurd h
-flushes_reach w (answer.Given r) number before now s t h = absurd h
-flushes_reach w (answer.Queued r) number before now s t h = absurd h
-flushes_reach w (answer.Freed r) number before now s t h = absurd h
-flushes_reach w (answer.Held rs) number before now s t h = absurd h
-flushes_reach w (answer.Stat x) number before now s t h = absurd h
-flushes_reach w answer.Bye number before now s t h = absurd h
+flushes_reach w a number before now s t h = absurd h
 
 client_reaches : (strict : Bool) (number : ℕ) (seat : SeatState) (id listed : ℕ) (r : Request) (a : Answer) (before now : List Call) (s t : State)
     → ClientDoes strict number seat id listed r a before now s t → Reaches s t
 client_reaches strict number seat id listed (request.Alloc frames limit) a before now s t h = reaches_step s _ _ t h.1
 client_reaches strict number seat id listed (request.Free lo) a before now s t h = reaches_all h.1.events s t h.1.leads
 client_reaches strict number seat id listed request.Flush a before now s t h = flushes_reach seat.worker a number before now s t h
-client_reaches strict number seat id listed request.List a before now s t h = reaches_same s t h.2
-client_reaches strict number seat id listed request.Stat a before now s t h = reaches_same s t h.2
-client_reaches strict number seat id listed (request.Hello domain sac) a before now s t h = reaches_same s t h.2
-client_reaches strict number seat id listed request.Bye a before now s t h = reaches_same s t h.2
+client_reaches strict number seat id listed r a before now s t h = reaches_same s t h.2
 
 pairs_reach : (strict : Bool) (number : ℕ) (client : Option ℕ) (listed : ℕ) (ps : List Pair) (a b : Moment)
     → PairsLead strict number client listed ps a b → Reaches a.domain b.domain
@@ -139,13 +125,10 @@ module _ {L : Type 0} (left sent : L → Option (List ℕ)) (reads : L → ℕ) 
   each_reaches : (ls ms : List L) (es : List SessionEnd) (a b : Between) → ServesEach left sent reads strict number ls ms es a b → ∥ Known a b ∥₁
   unfolding ServesEach
   each_reaches [] [] [] a b h = ∣ same_known a.domain b.domain (ap (λ (x : Between). x.domain) h) ∣₁
-  each_reaches [] [] (e ∷ es) a b h = absurd h
-  each_reaches [] (m ∷ ms) es a b h = absurd h
-  each_reaches (l ∷ ls) [] es a b h = absurd h
-  each_reaches (l ∷ ls) (m ∷ ms) [] a b h = absurd h
   each_reaches (l ∷ ls) (m ∷ ms) (e ∷ es) a b h =
       ∥∥₁_elim (one_reaches strict number (left l) (left m) (sent l) (sent m) (reads l) (reads m) e a h.0 h.1) ∥∥₁_prop (λ x.
       ∥∥₁_map (each_reaches ls ms es h.0 b h.2) (λ y. known_both a.domain h.0.domain b.domain Reaches Reaches Reaches x y reaches_then))
+  each_reaches ls ms es a b h = absurd h
 
   -- and it keeps the promises where the domain before it was kept
   pub each_keeps : PromisesAreKept → (ls ms : List L) (es : List SessionEnd) (a b : Between) → ((s : State) → a.domain ≡ Some s → IsValid s)

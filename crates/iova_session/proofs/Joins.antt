@@ -26,8 +26,7 @@ behind_pairs bytes piece next more ps qs e f =
 
 good_both : (ps qs : List Pair) → AllByRecursion IsRequest (requests_of ps) → AllByRecursion IsRequest (requests_of qs) → AllByRecursion IsRequest (requests_of (ps ++ qs))
 good_both ps qs h k =
-    let P : List Request → Type 0 = λ x. AllByRecursion IsRequest x in
-    subst P (sym (requests_of-append ps qs)) (All-append IsRequest (requests_of ps) (requests_of qs) h k)
+    subst (AllByRecursion IsRequest) (sym (requests_of-append ps qs)) (All-append IsRequest (requests_of ps) (requests_of qs) h k)
 
 no_bye_both : (ps qs : List Pair) → HasNoBye (requests_of ps) → HasNoBye (requests_of qs) → HasNoBye (requests_of (ps ++ qs))
 no_bye_both ps qs h k = subst HasNoBye (sym (requests_of-append ps qs)) (HasNoBye-append (requests_of ps) (requests_of qs) h k)

@@ -24,7 +24,7 @@ use Rattle.iova_keep.specs.Views.{WhereKnown, SeatState, TallyState}
 use Rattle.iova_keep.specs.Events.{Event, Leads, Does, Unmapping, run, not_run, sink_calls}
 use Rattle.iova_keep.specs.Releases.{FlushFollows, no_flush, stays, refused_first, queued_first, DoesRelease}
 use Rattle.iova_keep.specs.Answers.{Allocs}
-use Rattle.iova_keep.specs.Batches.{DoesAsk, DoesAsks, StopsAt, Batched, IsReplyTold, IsToldOf, MovesTold, may_do}
+use Rattle.iova_keep.specs.Batches.{DoesAsks, StopsAt, Batched, IsReplyTold, IsToldOf, MovesTold, may_do}
 use Rattle.iova_proto.specs.declared.answer.Answer.{Answer}
 use Rattle.iova_proto.specs.declared.request.Request.{Request}
 use Rattle.iova_proto.specs.declared.request.Request.TheVariants as request
@@ -163,8 +163,7 @@ unmapping_same law w id lo s t not_run e l = l.1
 stop_same : RefusalsKeepTheState → (w id : ℕ) (asks : List Ask) (held : Totals) (s t : State) → StopsAt w id asks held s t → t ≡ s
 stop_same law w id [] held s t h = h
 stop_same law w id (ask.Free lo ∷ asks) held s t h = unmapping_same law w id lo s t h.allowed refl h.leads
-stop_same law w id (ask.Alloc frames limit ∷ asks) held s t h = absurd h
-stop_same law w id (ask.Stat ∷ asks) held s t h = absurd h
+stop_same law w id (a ∷ asks) held s t h = absurd h
 
 -- a request for frames
 alloc_told : (w id frames limit : ℕ) (x : Told) (r : Reply) (s t : State) → IsToldOf (ask.Alloc frames limit) x → IsReplyTold r x
@@ -175,8 +174,7 @@ alloc_told w id frames limit (lock_told.Given q) r s t of e h = absurd e
 alloc_told w id frames limit (lock_told.Refused f) (reply.Refused e) s t of same h =
     (Err f, subst (λ (x : Refusal). Takes s (step.Alloc w id frames limit) (reply.Refused x) t) (sym same) h, refl)
 alloc_told w id frames limit (lock_told.Refused f) r s t of e h = absurd e
-alloc_told w id frames limit (lock_told.Queued q) r s t of e h = absurd of
-alloc_told w id frames limit (lock_told.Stat q) r s t of e h = absurd of
+alloc_told w id frames limit x r s t of e h = absurd of
 
 -- an unmap calls no sink
 unmapping_calls : (number : ℕ) {st : Step} {held : Totals} {r : Reply} {es : List Event} → Unmapping st held r es → sink_calls number es ≡ []
@@ -228,14 +226,11 @@ free_told number seat id lo (lock_told.Refused f) (reply.Refused e) calls s t of
   refl,
 )
 free_told number seat id lo (lock_told.Refused f) r calls s t of e full d = absurd e
-free_told number seat id lo (lock_told.Given q) r calls s t of e full d = absurd of
-free_told number seat id lo (lock_told.Stat q) r calls s t of e full d = absurd of
+free_told number seat id lo x r calls s t of e full d = absurd of
 
 told_stays : (id : ℕ) (x : Told) → next_client (Some id) (answer_of x) ≡ Some id
 told_stays id (lock_told.Given q) = refl
-told_stays id (lock_told.Queued q) = refl
-told_stays id (lock_told.Stat q) = refl
-told_stays id (lock_told.Refused e) = refl
+told_stays id x = refl
 
 -- the seat of worker w with this tally, which has `held`
 abbrev seat_with : ℕ → TallyState → Totals → SeatState
@@ -256,28 +251,6 @@ module _ (law : RefusalsKeepTheState) (number w id : ℕ) (tally : TallyState) (
         (rest (listed + count_listed (answer_of x))),
   )
 
-  alloc_then : (strict : Bool) (listed frames limit : ℕ) (x : Told) (ps : List Pair) (held now left : Totals) (s m t : State)
-      → IsToldOf (ask.Alloc frames limit) x → DoesAsk w id (ask.Alloc frames limit) x held s m → MovesTold x held now
-      → ((more : ℕ) → PairsLead strict number (Some id) more ps (moment (seat_with w tally now) calls m) (moment (seat_with w tally left) calls t))
-      → PairsLead strict number (Some id) listed (record { request = request.Alloc frames limit; answer = answer_of x } ∷ ps) (moment (seat_with w tally held) calls s) (moment (seat_with w tally left) calls t)
-  alloc_then strict listed frames limit x ps held now left s m t of does moves rest =
-      let told = alloc_told w id frames limit x does.0 s m of does.1 does.2 in
-      told_then strict listed (request.Alloc frames limit) x ps held now left s m t (told.0, told.1, told.2, refl) moves rest
-
-  stat_then : (strict : Bool) (listed : ℕ) (x : Told) (ps : List Pair) (held now left : Totals) (s m t : State)
-      → DoesAsk w id ask.Stat x held s m → MovesTold x held now
-      → ((more : ℕ) → PairsLead strict number (Some id) more ps (moment (seat_with w tally now) calls m) (moment (seat_with w tally left) calls t))
-      → PairsLead strict number (Some id) listed (record { request = request.Stat; answer = answer_of x } ∷ ps) (moment (seat_with w tally held) calls s) (moment (seat_with w tally left) calls t)
-  stat_then strict listed x ps held now left s m t does moves rest =
-      told_then strict listed request.Stat x ps held now left s m t (ap answer_of does.0, refl, does.1) moves rest
-
-  free_then : (listed lo : ℕ) (x : Told) (ps : List Pair) (held now left : Totals) (s m t : State)
-      → IsToldOf (ask.Free lo) x → DoesAsk w id (ask.Free lo) x held s m → MovesTold x held now
-      → ((more : ℕ) → PairsLead false number (Some id) more ps (moment (seat_with w tally now) calls m) (moment (seat_with w tally left) calls t))
-      → PairsLead false number (Some id) listed (record { request = request.Free lo; answer = answer_of x } ∷ ps) (moment (seat_with w tally held) calls s) (moment (seat_with w tally left) calls t)
-  free_then listed lo x ps held now left s m t of does moves rest =
-      told_then false listed (request.Free lo) x ps held now left s m t (free_told number (seat_with w tally held) id lo x does.0 calls s m of does.1 does.2 does.3) moves rest
-
   asks_lead : (strict : Bool) (listed : ℕ) (rs : List Request) (xs : List Told) (held left : Totals) (s t : State)
       → AreTold rs xs → DoesAsks w id (may_do strict (asks_in rs)) xs held left s t
       → PairsLead strict number (Some id) listed (told_pairs rs xs) (moment (seat_with w tally held) calls s) (moment (seat_with w tally left) calls t)
@@ -287,20 +260,19 @@ module _ (law : RefusalsKeepTheState) (number w id : ℕ) (tally : TallyState) (
       (λ i. moment (seat_with w tally (h.1 i)) calls (same i))
   asks_lead strict listed [] (x ∷ xs) held left s t each h = absurd each
   asks_lead true listed (request.Alloc frames limit ∷ rs) (x ∷ xs) held left s t each h =
-      alloc_then true listed frames limit x (told_pairs rs xs) held h.1 left s h.0 t each.0 h.2 h.3 (λ more. asks_lead true more rs xs h.1 left h.0 t each.1 h.4)
+      let told = alloc_told w id frames limit x h.2.0 s h.0 each.0 h.2.1 h.2.2 in
+      told_then true listed (request.Alloc frames limit) x (told_pairs rs xs) held h.1 left s h.0 t (told.0, told.1, told.2, refl) h.3 (λ more. asks_lead true more rs xs h.1 left h.0 t each.1 h.4)
   asks_lead false listed (request.Alloc frames limit ∷ rs) (x ∷ xs) held left s t each h =
-      alloc_then false listed frames limit x (told_pairs rs xs) held h.1 left s h.0 t each.0 h.2 h.3 (λ more. asks_lead false more rs xs h.1 left h.0 t each.1 h.4)
+      let told = alloc_told w id frames limit x h.2.0 s h.0 each.0 h.2.1 h.2.2 in
+      told_then false listed (request.Alloc frames limit) x (told_pairs rs xs) held h.1 left s h.0 t (told.0, told.1, told.2, refl) h.3 (λ more. asks_lead false more rs xs h.1 left h.0 t each.1 h.4)
   asks_lead true listed (request.Stat ∷ rs) (x ∷ xs) held left s t each h =
-      stat_then true listed x (told_pairs rs xs) held h.1 left s h.0 t h.2 h.3 (λ more. asks_lead true more rs xs h.1 left h.0 t each.1 h.4)
+      told_then true listed request.Stat x (told_pairs rs xs) held h.1 left s h.0 t (ap answer_of h.2.0, refl, h.2.1) h.3 (λ more. asks_lead true more rs xs h.1 left h.0 t each.1 h.4)
   asks_lead false listed (request.Stat ∷ rs) (x ∷ xs) held left s t each h =
-      stat_then false listed x (told_pairs rs xs) held h.1 left s h.0 t h.2 h.3 (λ more. asks_lead false more rs xs h.1 left h.0 t each.1 h.4)
+      told_then false listed request.Stat x (told_pairs rs xs) held h.1 left s h.0 t (ap answer_of h.2.0, refl, h.2.1) h.3 (λ more. asks_lead false more rs xs h.1 left h.0 t each.1 h.4)
   asks_lead true listed (request.Free lo ∷ rs) (x ∷ xs) held left s t each h = absurd h
   asks_lead false listed (request.Free lo ∷ rs) (x ∷ xs) held left s t each h =
-      free_then listed lo x (told_pairs rs xs) held h.1 left s h.0 t each.0 h.2 h.3 (λ more. asks_lead false more rs xs h.1 left h.0 t each.1 h.4)
-  asks_lead strict listed (request.Hello domain sac ∷ rs) (x ∷ xs) held left s t each h = absurd each.0
-  asks_lead strict listed (request.List ∷ rs) (x ∷ xs) held left s t each h = absurd each.0
-  asks_lead strict listed (request.Flush ∷ rs) (x ∷ xs) held left s t each h = absurd each.0
-  asks_lead strict listed (request.Bye ∷ rs) (x ∷ xs) held left s t each h = absurd each.0
+      told_then false listed (request.Free lo) x (told_pairs rs xs) held h.1 left s h.0 t (free_told number (seat_with w tally held) id lo x h.2.0 calls s h.0 each.0 h.2.1 h.2.2 h.2.3) h.3 (λ more. asks_lead false more rs xs h.1 left h.0 t each.1 h.4)
+  asks_lead strict listed (r ∷ rs) (x ∷ xs) held left s t each h = absurd each.0
 
 pub same_seat : (old new : SeatState) → new.worker ≡ old.worker → new.held ≡ old.held → new.tally ≡ old.tally → new ≡ old
 same_seat old new worker held tally = λ i. record { worker = worker i; held = held i; tally = tally i }

@@ -10,7 +10,6 @@ mod EndedClients
 mod Gone
 mod LoneSteps
 mod LoneEnds
-mod Departures
 mod Retrying
 mod EndedPosts
 mod Emptied

@@ -1,7 +1,6 @@
 -- The end of a client where nobody else holds a range and the sink answers well: it is reported as `Ended`, or there is no such client.
 use Rattle.std.proofs.Common.{ℕ, ◌≡◌, ◌+◌, ◌<◌, ◌≤◌, ◌⊎◌, inl, inr, Bool, true, false, List, [], ◌∷◌, ◌++◌, Option, Some, None, refl, sym, ap, ◌∙◌, subst, arith, length-append}
 use Rattle.std.specs.Prelude.{Result, length, sum_by}
-use Rattle.std.specs.List.{AllByRecursion}
 use Rattle.std.proofs.lemmas.Bool.Decides.{nat_tests}
 use Rattle.std.proofs.lemmas.List.Sums.{sum_by-append}
 use Rattle.iova_range.specs.declared.limits.TheConstants.{MAX_SERIAL}
@@ -14,21 +13,22 @@ use Rattle.iova_model.specs.declared.step.Reply.TheVariants as reply
 use Rattle.iova_model.specs.declared.totals.Totals.{Totals}
 use Rattle.iova_model.specs.Clients.{Client, client_with, client_of, has_id, without_client, totals, all_holdings}
 use Rattle.iova_model.specs.State.{State}
-use Rattle.iova_model.specs.Valid.{IsValid, IsClient}
+use Rattle.iova_model.specs.Valid.{IsValid}
 use Rattle.iova_model.specs.Next
 use Rattle.iova_model.specs.Effects.{to_queue}
 use Rattle.iova_model.specs.Laws.{StepsKeepValidity}
 use Rattle.iova_laws.proofs.Finds.{owned}
+use Rattle.iova_laws.proofs.Kept.{found_valid}
 use Rattle.iova_sink.specs.Calls.{Call, Invalidation, failed_calls}
 use Rattle.iova_keep.specs.declared.ending.Ending.{Ending}
 use Rattle.iova_keep.specs.Steps.{Takes}
 use Rattle.iova_keep.specs.Views.{IsUnknown, SeatState}
 use Rattle.iova_keep.specs.Answers.{DoesEndClient}
-use Rattle.iova_keep.specs.Events.{Event, Ran, NotRun, Invalidated, Leads, IsShort, sink_calls, run, not_run, Closing, stops, queues, CloseFirst, closed, closed_full, CloseAgain, closed_again, full_at_once, full_again, CloseRest, last, another, Answered, ended, unknown, gone, share, sink_failed, overlap, flights_full, worn, EndClient, in_one_hold, in_more}
+use Rattle.iova_keep.specs.Events.{Event, Ran, NotRun, Invalidated, Leads, IsShort, sink_calls, run, not_run, Closing, stops, queues, CloseFirst, closed, closed_full, CloseAgain, closed_again, full_at_once, full_again, CloseRest, last, another, Answered, ended, unknown, gone, share, EndClient, in_one_hold, in_more}
 use Rattle.iova_session.specs.Gone.{HasAtLeast}
 use Rattle.iova_session.specs.Leaving.{still_waits}
-use Rattle.iova_session.proofs.Gone.{takes_valid, leads_split}
-use Rattle.iova_session.proofs.LoneSteps.{Lone, Full, Left, Flying, Fresh, takes_lone, never_short, begin_lone, end_lone}
+use Rattle.iova_session.proofs.Gone.{takes_valid, leads_split, some_reply}
+use Rattle.iova_session.proofs.LoneSteps.{Lone, Full, Left, Says, Flying, Fresh, takes_lone, never_short, begin_lone, end_lone}
 
 -- The calls of the sink.
 
@@ -66,9 +66,6 @@ record Holds (w id : ℕ) (rest : List Client) (left : Totals) (o b : Option Rep
   full : o ≡ Some (reply.Refused refusal.RingFull) → (n : ℕ) × (b ≡ Some (reply.Begun n)) × Flying w id rest left n t
   only : (e : Refusal) → o ≡ Some (reply.Refused e) → e ≡ refusal.RingFull
 
-same_reply : {a b : Reply} → Some a ≡ Some b → a ≡ b
-same_reply e = cc
-
 same_number : {n m : ℕ} → ◌≡◌ {A = Option Reply} (Some (reply.Begun m)) (Some (reply.Begun n)) → n ≡ m
 same_number e = cc
 
@@ -84,19 +81,19 @@ module _ (law : StepsKeepValidity) (w id : ℕ) (rest : List Client) where
   closing_closes : {held left : Totals} {r : Reply} {es : List Event} (s t : State) → Closing (step.CloseOne w id) held left r es → IsValid s → Lone w id rest held MAX_SERIAL s → Leads s es t
       → Closed w id rest left r t
   closing_closes s t (stops held left r es even other (run q)) valid lone l =
-      let says = takes_lone w id rest held MAX_SERIAL s r l.0 lone l.1 in
+      let says : (q : Reply) → r ≡ q → Says w id rest held MAX_SERIAL s lone.client q l.0 = λ q e. subst (λ (x : Reply). Says w id rest held MAX_SERIAL s lone.client x l.0) e (takes_lone w id rest held MAX_SERIAL s r l.0 lone l.1) in
       let now = takes_valid law s (step.CloseOne w id) r l.0 valid l.1 in
       subst (λ x. Closed w id rest left r x) (sym l.2) (subst (λ (x : Totals). Closed w id rest x r l.0) (sym even) (record {
         valid = now;
-        gone = λ e. (says.empty e).1;
-        full = λ e. says.full e;
-        only = λ e is. says.only e is;
+        gone = λ e. (says reply.Empty e).1;
+        full = λ e. (says (reply.Refused refusal.RingFull) e).1;
+        only = λ e is. (says (reply.Refused e) is).0;
       }))
   closing_closes s t (stops held left r es even other not_run) valid lone l = absurd (never_short w id rest held MAX_SERIAL s lone l.0)
   closing_closes s t (queues held mid left q r es sum k) valid lone l =
       let says = takes_lone w id rest held MAX_SERIAL s (reply.Queued q) l.0 lone l.1 in
       let now = takes_valid law s (step.CloseOne w id) (reply.Queued q) l.0 valid l.1 in
-      closing_closes l.0 t k now (says.queued q mid MAX_SERIAL refl sum (omega arith)) l.2
+      closing_closes l.0 t k now (says mid MAX_SERIAL sum (omega arith)) l.2
 
   -- after a flush that ended well the ring takes a range at least
   record FreshClosed (held left : Totals) (r : Reply) (t : State) : Type 0 where
@@ -106,17 +103,18 @@ module _ (law : StepsKeepValidity) (w id : ℕ) (rest : List Client) where
   fresh_closes : {held left : Totals} {r : Reply} {es : List Event} (s t : State) → Closing (step.CloseOne w id) held left r es → IsValid s → Fresh w id rest held s → Leads s es t
       → FreshClosed held left r t
   fresh_closes s t (stops held left r es even other (run q)) valid fresh l =
-      let says = takes_lone w id rest held (MAX_SERIAL + 1) s r l.0 fresh.full.lone l.1 in
+      let says : (q : Reply) → r ≡ q → Says w id rest held (MAX_SERIAL + 1) s fresh.full.lone.client q l.0 =
+      λ q e. subst (λ (x : Reply). Says w id rest held (MAX_SERIAL + 1) s fresh.full.lone.client x l.0) e (takes_lone w id rest held (MAX_SERIAL + 1) s r l.0 fresh.full.lone l.1) in
       let now = takes_valid law s (step.CloseOne w id) r l.0 valid l.1 in
       let some = fresh.full.some in
       record {
         closed = record {
           valid = subst IsValid (sym l.2) now;
-          gone = λ e. absurd (let none = ap length (says.empty e).0 in omega (arith, none, some));
-          full = λ e. absurd (says.room fresh.room e);
-          only = λ e is. says.only e is;
+          gone = λ e. absurd (let none = ap length (says reply.Empty e).0 in omega (arith, none, some));
+          full = λ e. absurd ((says (reply.Refused refusal.RingFull) e).2 fresh.room);
+          only = λ e is. (says (reply.Refused e) is).0;
         };
-        less = λ e. absurd (says.room fresh.room e);
+        less = λ e. absurd ((says (reply.Refused refusal.RingFull) e).2 fresh.room);
       }
   fresh_closes s t (stops held left r es even other not_run) valid fresh l = absurd (never_short w id rest held (MAX_SERIAL + 1) s fresh.full.lone l.0)
   fresh_closes s t (queues held mid left q r es sum k) valid fresh l =
@@ -125,7 +123,7 @@ module _ (law : StepsKeepValidity) (w id : ℕ) (rest : List Client) where
       let c = ap (λ (x : Totals). x.count) sum in
       let more = closing_lowers k in
       record {
-        closed = closing_closes l.0 t k now (says.queued q mid MAX_SERIAL refl sum (omega arith)) l.2;
+        closed = closing_closes l.0 t k now (says mid MAX_SERIAL sum (omega arith)) l.2;
         less = λ e. omega (arith, c, more);
       }
 
@@ -140,15 +138,15 @@ module _ (law : StepsKeepValidity) (w id : ℕ) (rest : List Client) where
         valid = takes_valid law h.0 step.Begin begin h.2.0 before.valid h.2.1;
         gone = λ e. absurd cc;
         full = λ e. (b.0, ap Some b.1, b.2);
-        only = λ e is. before.only e (same_reply is);
+        only = λ e is. before.only e (some_reply is);
       })
 
   closed_holds : {left : Totals} {r : Reply} {t : State} → (r ≡ reply.Refused refusal.RingFull → ⊥) → Closed w id rest left r t → Holds w id rest left (Some r) None t
   closed_holds other c = record {
     valid = c.valid;
-    gone = λ e. c.gone (same_reply e);
-    full = λ e. absurd (other (same_reply e));
-    only = λ e is. c.only e (same_reply is);
+    gone = λ e. c.gone (some_reply e);
+    full = λ e. absurd (other (some_reply e));
+    only = λ e is. c.only e (some_reply is);
   }
 
   first_holds : {held left : Totals} {o b : Option Reply} {es : List Event} (s t : State) → CloseFirst (step.CloseOne w id) held left o b es → IsValid s → Lone w id rest held MAX_SERIAL s → Leads s es t
@@ -195,10 +193,7 @@ module _ (law : StepsKeepValidity) (w id : ℕ) (rest : List Client) where
   answered_ends (unknown e u none) h = absurd (not_full e u (h.only e refl))
   answered_ends (gone e u some) h = absurd (not_full e u (h.only e refl))
   answered_ends share h = absurd (let no = h.only refusal.NotHeld refl in cc)
-  answered_ends (sink_failed f) h = absurd (let no = (h.full refl).1 in cc)
-  answered_ends (overlap f) h = absurd (let no = (h.full refl).1 in cc)
-  answered_ends flights_full h = absurd (let no = (h.full refl).1 in cc)
-  answered_ends worn h = absurd (let no = (h.full refl).1 in cc)
+  answered_ends a h = absurd (let no = (h.full refl).1 in cc)
 
   end_ends : {held left : Totals} {remains : ℕ} {result : Result Ending Refusal} {es : List Event} (number : ℕ) (s t : State) → EndClient (step.CloseOne w id) held left remains result es → IsValid s
       → Lone w id rest held MAX_SERIAL s → failed_calls (sink_calls number es) ≡ 0 → Leads s es t → Ends left result t
@@ -272,17 +267,14 @@ first_unseen s t (closed_full begin es k) none l =
     absurd (not_ring (closing_unseen s h.0 k none h.1).reply)
 
 unseen_some : {r q : Reply} → Some r ≡ Some q → IsUnseen q → IsUnseen r
-unseen_some e u = let same : _ ≡ _ = same_reply e in subst IsUnseen (sym same) u
+unseen_some e u = let same : _ ≡ _ = some_reply e in subst IsUnseen (sym same) u
 
 unseen_answered : {queued remains : ℕ} {flushed : Option Bool} {o b : Option Reply} {result : Result Ending Refusal} → Answered queued remains flushed o b result → (r : Reply) → o ≡ Some r → IsUnseen r → still_waits result ≡ false
 unseen_answered ended r e u = refl
 unseen_answered (unknown x known none) r e u = refl
 unseen_answered (gone x known some) r e u = refl
 unseen_answered share r e u = absurd (elim (unseen_some e u) [ ])
-unseen_answered (sink_failed f) r e u = absurd (not_ring (unseen_some e u))
-unseen_answered (overlap f) r e u = absurd (not_ring (unseen_some e u))
-unseen_answered flights_full r e u = absurd (not_ring (unseen_some e u))
-unseen_answered worn r e u = absurd (not_ring (unseen_some e u))
+unseen_answered a r e u = absurd (not_ring (unseen_some e u))
 
 record EndsUnseen (s : State) (held left : Totals) (result : Result Ending Refusal) (t : State) : Type 0 where
   over : still_waits result ≡ false
@@ -326,18 +318,10 @@ measured : (m : List Frames → ℕ) → ((xs ys : List Frames) → m (xs ++ ys)
 measured m adds id c [] is = absurd cc
 measured m adds id c (x ∷ cs) is = measured_step m adds id c x cs (has_id id x) refl is (λ further. measured m adds id c cs further)
 
-found_step : (P : Client → Type 0) (id : ℕ) (c x : Client) (cs : List Client) (b : Bool) → has_id id x ≡ b → P x → client_with id (x ∷ cs) ≡ Some c → (client_with id cs ≡ Some c → P c) → P c
-found_step P id c x cs true e first found further = let here = rw e at found in let one : x ≡ c = cc (here) in subst P one first
-found_step P id c x cs false e first found further = further (rw e at found)
-
-found_all : (P : Client → Type 0) (id : ℕ) (c : Client) (cs : List Client) → AllByRecursion P cs → client_with id cs ≡ Some c → P c
-found_all P id c [] each is = absurd cc
-found_all P id c (x ∷ cs) each is = found_step P id c x cs (has_id id x) refl each.0 is (λ further. found_all P id c cs each.1 further)
-
 calm_lone : (w id : ℕ) (held : Totals) (s : State) (c : Client) → Calm held s → client_of w id s.clients ≡ Some c → Lone w id (without_client id s.clients) held MAX_SERIAL s
 calm_lone w id held s c calm is =
     let own = owned w id s.clients c is in
-    let known = found_all (IsClient s.workers) id c s.clients calm.valid.clients.each own.is in
+    let known = found_valid s.workers id c s.clients s.serial own.is calm.valid.clients in
     let below = known.worker in
     let mine = own.worker in
     let count = measured length (λ xs ys. length-append xs ys) id c s.clients own.is in

@@ -6,7 +6,6 @@ use Rattle.std.proofs.lemmas.Bool.{cond_both, lt-leb}
 use Rattle.std.proofs.lemmas.Bool.Decides.{nat_tests}
 use Rattle.std.proofs.lemmas.List.Sums.{sum_by-append}
 use Rattle.iova_range.specs.declared.limits.TheConstants.{MAX_ENTRIES, MAX_FLIGHTS, MAX_SERIAL}
-use Rattle.iova_range.specs.declared.refusal.Refusal.{Refusal}
 use Rattle.iova_range.specs.declared.refusal.Refusal.TheVariants as refusal
 use Rattle.iova_range.specs.Frames.{Frames}
 use Rattle.iova_model.specs.declared.entry.Entry.{Entry}
@@ -102,19 +101,13 @@ pub record Left (rest : List Client) (held : Totals) (top : ℕ) (s : State) : T
   pub quiet : s.flushes.in_flight ≡ []
   pub numbers : s.flushes.start + length (all_holdings rest) ≤ top
 
--- What the reply to a closing says of the client, which was this one.
-pub record Says (w id : ℕ) (rest : List Client) (held : Totals) (top : ℕ) (s : State) (c : Client) (r : Reply) (t : State) : Type 0 where
-  pub empty : r ≡ reply.Empty → (c.holdings ≡ []) × Left rest held top t
-  pub queued : (q : Frames) (mid : Totals) (low : ℕ) → r ≡ reply.Queued q → held ≡ add_totals mid (totals_of (q ∷ [])) → top ≤ low + 1 → Lone w id rest mid low t
-  pub full : r ≡ reply.Refused refusal.RingFull → Full w id rest held top t
-  pub only : (e : Refusal) → r ≡ reply.Refused e → e ≡ refusal.RingFull
-  pub room : unflushed_rest s.flushes.finish (Next.ring_at s w) ≡ [] → r ≡ reply.Refused refusal.RingFull → ⊥
-
-refused_as : {e d : Refusal} → ◌≡◌ {A = Reply} (reply.Refused e) (reply.Refused d) → d ≡ e
-refused_as h = cc
-
-queued_as : {q r : Frames} → ◌≡◌ {A = Reply} (reply.Queued r) (reply.Queued q) → q ≡ r
-queued_as h = cc
+-- What the reply to a closing says of the client, which was this one: it held nothing and is gone; or a range was queued, and it
+-- is there with that range less; or the ring was full, which was not empty then.
+abbrev pub Says : ℕ → ℕ → List Client → Totals → ℕ → State → Client → Reply → State → Type 0
+Says w id rest held top s c reply.Empty t = (c.holdings ≡ []) × Left rest held top t
+Says w id rest held top s c (reply.Queued q) t = (mid : Totals) (low : ℕ) → held ≡ add_totals mid (totals_of (q ∷ [])) → top ≤ low + 1 → Lone w id rest mid low t
+Says w id rest held top s c (reply.Refused e) t = (e ≡ refusal.RingFull) × Full w id rest held top t × (unflushed_rest s.flushes.finish (Next.ring_at s w) ≡ [] → ⊥)
+Says w id rest held top s c r t = ⊥
 
 first_less : (held mid some : Totals) (r : Frames) (rs : List Frames) → held ≡ add_totals mid (totals_of (r ∷ [])) → HasAtLeast held (add_totals (totals_of (r ∷ rs)) some) → HasAtLeast mid (add_totals (totals_of rs) some)
 first_less held mid some r rs sum h =
@@ -134,21 +127,15 @@ at_least_rest held a b h = record { count = omega (arith, h.count); frames = ome
 
 module _ (w id : ℕ) (rest : List Client) (held : Totals) (top : ℕ) (s : State) (lone : Lone w id rest held top s) where
   empty_says : lone.client.holdings ≡ [] → Says w id rest held top s lone.client reply.Empty (Next.with_clients s (without_client id s.clients))
-  empty_says none = record {
-    empty = λ e. (
-      none,
-      record {
-        clients = lone.others;
-        shares = at_least_rest held (totals_of lone.client.holdings) (totals rest) lone.shares;
-        quiet = lone.quiet;
-        numbers = omega (arith, lone.numbers);
-      },
-    );
-    queued = λ q mid low e sum le. absurd cc;
-    full = λ e. absurd cc;
-    only = λ e x. absurd cc;
-    room = λ out e. cc;
-  }
+  empty_says none = (
+    none,
+    record {
+      clients = lone.others;
+      shares = at_least_rest held (totals_of lone.client.holdings) (totals rest) lone.shares;
+      quiet = lone.quiet;
+      numbers = omega (arith, lone.numbers);
+    },
+  )
 
   lone_marked : (r : Frames) (rs : List Frames) → lone.client.holdings ≡ r ∷ rs → Full w id rest held top (Next.with_clients s (change_client id with_mark s.clients))
   lone_marked r rs is = record {
@@ -168,41 +155,31 @@ module _ (w id : ℕ) (rest : List Client) (held : Totals) (top : ℕ) (s : Stat
   full_says : (r : Frames) (rs : List Frames) → lone.client.holdings ≡ r ∷ rs
       → nat_le MAX_ENTRIES (length (Next.ring_at (Next.after_drain (Next.with_clients s (change_client id with_mark s.clients)) w w) w)) ≡ true
       → Says w id rest held top s lone.client (reply.Refused refusal.RingFull) (Next.with_clients s (change_client id with_mark s.clients))
-  full_says r rs is b = record {
-    empty = λ e. absurd cc;
-    queued = λ q mid low e sum le. absurd cc;
-    full = λ e. lone_marked r rs is;
-    only = λ e x. refused_as x;
-    room = λ out e.
+  full_says r rs is b = (
+    refl,
+    lone_marked r rs is,
+    λ out.
         let c : nat_le MAX_ENTRIES (length (slice_index_or (slice_set s.rings w []) w [])) ≡ true = subst (λ (es : List Entry). nat_le MAX_ENTRIES (length (slice_index_or (slice_set s.rings w es) w [])) ≡ true) out b in
         let d : nat_le MAX_ENTRIES 0 ≡ true = subst (λ (es : List Entry). nat_le MAX_ENTRIES (length es) ≡ true) (emptied_ring s.rings w) c in
-        cc;
-  }
+        cc,
+  )
 
   queued_says : (r : Frames) (rs : List Frames) → lone.client.holdings ≡ r ∷ rs
       → Says w id rest held top s lone.client (reply.Queued r) (Next.with_entry (Next.after_drain (Next.with_clients s (change_client id with_mark s.clients)) w w) w id r)
-  queued_says r rs is =
+  queued_says r rs is = λ mid low sum le.
       let now : client_with id (change_client id with_mark s.clients) ≡ Some (with_mark lone.client) = changed_found id with_mark lone.client s.clients lone.is refl in
       let left : remove_at r.lo lone.client.holdings ≡ rs = ap (remove_at r.lo) is ∙ remove_first r rs in
+      let shares = first_less held mid (totals rest) r rs sum (subst (λ (xs : List Frames). HasAtLeast held (add_totals (totals_of xs) (totals rest))) is lone.shares) in
+      let numbers : s.flushes.start + (length (r ∷ rs) + length (all_holdings rest)) ≤ top = subst (λ (xs : List Frames). s.flushes.start + (length xs + length (all_holdings rest)) ≤ top) is lone.numbers in
       record {
-        empty = λ e. absurd cc;
-        queued = λ q mid low e sum le.
-            let same : q ≡ r = queued_as e in
-            let shares = first_less held mid (totals rest) r rs (subst (λ (x : Frames). held ≡ add_totals mid (totals_of (x ∷ []))) same sum) (subst (λ (xs : List Frames). HasAtLeast held (add_totals (totals_of xs) (totals rest))) is lone.shares) in
-            let numbers : s.flushes.start + (length (r ∷ rs) + length (all_holdings rest)) ≤ top = subst (λ (xs : List Frames). s.flushes.start + (length xs + length (all_holdings rest)) ≤ top) is lone.numbers in
-            record {
-              client = without_holding r.lo (with_mark lone.client);
-              is = changed_found id (without_holding r.lo) (with_mark lone.client) (change_client id with_mark s.clients) now refl;
-              mine = lone.mine;
-              worker = lone.worker;
-              others = forgotten_changed id (without_holding r.lo) (change_client id with_mark s.clients) (λ c. refl) ∙ (forgotten_changed id with_mark s.clients (λ c. refl) ∙ lone.others);
-              shares = subst (λ (xs : List Frames). HasAtLeast mid (add_totals (totals_of xs) (totals rest))) (sym left) shares;
-              quiet = lone.quiet;
-              numbers = subst (λ (xs : List Frames). s.flushes.start + (length xs + length (all_holdings rest)) ≤ low) (sym left) (omega (arith, numbers, le));
-            };
-        full = λ e. absurd cc;
-        only = λ e x. absurd cc;
-        room = λ out e. cc;
+        client = without_holding r.lo (with_mark lone.client);
+        is = changed_found id (without_holding r.lo) (with_mark lone.client) (change_client id with_mark s.clients) now refl;
+        mine = lone.mine;
+        worker = lone.worker;
+        others = forgotten_changed id (without_holding r.lo) (change_client id with_mark s.clients) (λ c. refl) ∙ (forgotten_changed id with_mark s.clients (λ c. refl) ∙ lone.others);
+        shares = subst (λ (xs : List Frames). HasAtLeast mid (add_totals (totals_of xs) (totals rest))) (sym left) shares;
+        quiet = lone.quiet;
+        numbers = subst (λ (xs : List Frames). s.flushes.start + (length xs + length (all_holdings rest)) ≤ low) (sym left) (omega (arith, numbers, le));
       }
 
   lowest_says : (rs : List Frames) → lone.client.holdings ≡ rs

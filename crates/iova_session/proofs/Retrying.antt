@@ -10,6 +10,7 @@ use Rattle.iova_session.specs.Posts.{IsSublist, Retries, RetriesAll, kept_if}
 use Rattle.iova_session.specs.declared.leaving.Attempt.{Attempt}
 use Rattle.iova_session.specs.Leaving.{Attempts}
 use Rattle.iova_session.proofs.Others.{known_one}
+use Rattle.iova_session.proofs.Each.{drop_next, same_there}
 
 pub kept_last : (xs ys : List ℕ) (y : ℕ) → IsSublist xs ys → IsSublist (xs ++ y ∷ []) (ys ++ y ∷ [])
 kept_last [] [] y h = inl (refl, tt)
@@ -52,20 +53,6 @@ tried_with over room number ids kept seat left before now o p few h =
 pub tried_none : (room number : ℕ) (ids : List ℕ) (seat : SeatState) (calls : List Call) (o : Option State) → ids ≡ [] → WhereKnown o o (RetriesAll room number ids ids seat seat calls calls)
 tried_none room number ids seat calls None none = tt
 tried_none room number ids seat calls (Some s) none = rw none (false, (λ e. absurd cc), (refl, refl, refl, refl))
-
-abbrev tail : List ℕ → List ℕ
-tail [] = []
-tail (x ∷ xs) = xs
-
-abbrev head_or : ℕ → List ℕ → ℕ
-head_or d [] = d
-head_or d (x ∷ xs) = x
-
-pub drop_next : (xs ys : List ℕ) (at d : ℕ) → at < length xs → at < length ys → drop at xs ≡ drop at ys → drop (at + 1) xs ≡ drop (at + 1) ys
-drop_next xs ys at d lx ly e = ap tail (sym (drop_more xs at d lx) ∙ e ∙ drop_more ys at d ly)
-
-pub same_there : (xs ys : List ℕ) (at d : ℕ) → at < length xs → at < length ys → drop at xs ≡ drop at ys → get_or xs at d ≡ get_or ys at d
-same_there xs ys at d lx ly e = ap (head_or d) (sym (drop_more xs at d lx) ∙ e ∙ drop_more ys at d ly)
 
 -- how the list stands once so many were tried and so many of them kept
 pub record Tried (ids now : List ℕ) (at left : ℕ) : Type 0 where

@@ -9,8 +9,8 @@ use Rattle.iova_text.specs.Lines.{IsUnended}
 use Rattle.iova_proto.specs.Requests.{IsRequest}
 use Rattle.iova_proto.specs.declared.request.Request.{Request}
 use Rattle.iova_session.specs.Pairs.{Pair, requests_of, answers_of, requests_text, answers_text}
-use Rattle.iova_session.specs.Sessions.{bad_line, too_many, HasNoBye, StopsAtBye, EndsInBye, BeginsWith, IsLastLine, EndsSo, Serves, ServesWithin, ends_at}
-use Rattle.iova_session.specs.Rounds.{IsLines, AllAnswered, Gathers, IsCut, AsksRun}
+use Rattle.iova_session.specs.Sessions.{bad_line, too_many, HasNoBye, StopsAtBye, EndsInBye, BeginsWith, IsLastLine, EndsSo, Serves, ServesWithin}
+use Rattle.iova_session.specs.Rounds.{IsLines, AllAnswered, Gathers, AsksRun}
 use Rattle.iova_session.specs.declared.end.End.{End}
 use Rattle.iova_session.specs.declared.end.End.TheVariants as ends
 use Rattle.iova_session.specs.declared.gathering.Stop.{Stop}
@@ -30,20 +30,18 @@ IsLines-cut next piece rs used e = record {
 -- the first requests, where not all of them were asked
 begins_front : (here : ℕ) (bytes rest : List ℕ) (rs qs more : List Request) → rs ≡ qs ++ more → length rs ≤ here → StopsAtBye rs → IsLines bytes rs rest
     → BeginsWith here bytes qs (requests_text more ++ rest)
-begins_front here bytes rest rs qs more e l b i =
-    let P : List Request → Type 0 = λ x. AllByRecursion IsRequest x in record {
-      good = All-front IsRequest qs more (subst P e i.good);
-      whole = i.whole ∙ ap (λ x. requests_text x ++ rest) e ∙ ap (λ x. x ++ rest) (requests_text-append qs more)
-          ∙ append_assoc (requests_text qs) (requests_text more) rest;
-      byes = StopsAtBye-front qs more (subst StopsAtBye e b);
-      few = omega (arith, ap length e, length-append {A = Request} qs more, l);
-    }
+begins_front here bytes rest rs qs more e l b i = record {
+  good = All-front IsRequest qs more (subst (AllByRecursion IsRequest) e i.good);
+  whole = i.whole ∙ ap (λ x. requests_text x ++ rest) e ∙ ap (λ x. x ++ rest) (requests_text-append qs more)
+      ∙ append_assoc (requests_text qs) (requests_text more) rest;
+  byes = StopsAtBye-front qs more (subst StopsAtBye e b);
+  few = omega (arith, ap length e, length-append {A = Request} qs more, l);
+}
 
 begins_all : (here : ℕ) (bytes rest : List ℕ) (rs qs : List Request) → qs ≡ rs → length rs ≤ here → StopsAtBye rs → IsLines bytes rs rest
     → BeginsWith here bytes qs rest
 begins_all here bytes rest rs qs e l b i =
-    let P : List Request → Type 0 = λ x. BeginsWith here bytes x rest in
-    subst P (sym e) (record { good = i.good; whole = i.whole; byes = b; few = l })
+    subst (λ (x : List Request). BeginsWith here bytes x rest) (sym e) (record { good = i.good; whole = i.whole; byes = b; few = l })
 
 -- whatever was gathered, the bytes are those requests and a rest
 gathered : (left used : ℕ) (next piece : List ℕ) (rs : List Request) (stop : Stop) (new : Option (List ℕ)) → Gathers left next piece rs used stop new
@@ -78,15 +76,13 @@ pub AllAnswered-more : (here used : ℕ) (next piece w : List ℕ) (rs : List Re
     → Gathers here next piece rs used stops.More new → requests_of qs ≡ rs → w ≡ answers_text (answers_of qs)
     → (n : List ℕ) × AllAnswered (next ++ piece) qs n w × IsUnended n × (new ≡ Some n)
 AllAnswered-more here used next piece w rs new qs h e f =
-    let P : List Request → Type 0 = λ x. IsLines (next ++ piece) x h.1.0 in
-    (h.1.0, record { lines = subst P (sym e) h.1.1; byes = subst HasNoBye (sym e) h.0; answered = f }, h.1.2, h.1.3)
+    (h.1.0, record { lines = subst (λ (x : List Request). IsLines (next ++ piece) x h.1.0) (sym e) h.1.1; byes = subst HasNoBye (sym e) h.0; answered = f }, h.1.2, h.1.3)
 
 pub AllAnswered-full : (here used : ℕ) (next piece w : List ℕ) (rs : List Request) (new : Option (List ℕ)) (qs : List Pair)
     → Gathers here next piece rs used stops.Full new → requests_of qs ≡ rs → w ≡ answers_text (answers_of qs)
     → AllAnswered (next ++ take used piece) qs [] w
 AllAnswered-full here used next piece w rs new qs h e f =
-    let P : List Request → Type 0 = λ x. IsLines (next ++ take used piece) x [] in
-    record { lines = subst P (sym e) h.1; byes = subst HasNoBye (sym e) h.0; answered = f }
+    record { lines = subst (λ (x : List Request). IsLines (next ++ take used piece) x []) (sym e) h.1; byes = subst HasNoBye (sym e) h.0; answered = f }
 
 pub Serves-bye : (here used : ℕ) (next piece w : List ℕ) (rs : List Request) (new : Option (List ℕ)) (qs : List Pair) → length rs ≤ here
     → Gathers here next piece rs used stops.Bye new → requests_of qs ≡ rs → w ≡ answers_text (answers_of qs)
@@ -105,14 +101,12 @@ pub Serves-refused : (most bound reads : ℕ) (bytes rest v line : List ℕ) (qs
     → ((result ≡ end) × Appends a b line) ⊎ ((result ≡ ends.LinkFault) × ((n : ℕ) × Appends a b (take n line)))
     → (w : List ℕ) × Appends a b w × ServesWithin most bound bytes qs (v ++ w) reads result
 Serves-refused most bound reads bytes rest v line qs a b end result few start e last says (inl t) =
-    let P : End → Type 0 = λ x. ServesWithin most bound bytes qs (v ++ line) reads x in
-    (line, t.1, subst P (sym t.0) (record { rest = rest; requests = start; few = few; says = says }))
+    (line, t.1, subst (ServesWithin most bound bytes qs (v ++ line) reads) (sym t.0) (record { rest = rest; requests = start; few = few; says = says }))
 Serves-refused most bound reads bytes rest v line qs a b end result few start e last says (inr t) =
-    let n = t.1.0 in
-    let P : End → Type 0 = λ x. ServesWithin most bound bytes qs (v ++ take n line) reads x in (
+    let n = t.1.0 in (
       take n line,
       t.1.1,
-      subst P (sym t.0) (record {
+      subst (ServesWithin most bound bytes qs (v ++ take n line) reads) (sym t.0) (record {
         rest = rest;
         requests = start;
         few = few;
@@ -151,34 +145,27 @@ pub Serves-whole : (most here at : ℕ) (kept piece next w v : List ℕ) (ps qs 
     → AllAnswered (kept ++ take at piece) ps next w → Serves here (next ++ take (length piece - at) (drop at piece)) qs v 0 end
     → Serves most (kept ++ piece) (ps ++ qs) (w ++ v) 0 end
 Serves-whole most here at kept piece next w v ps qs end l a b =
-    let P : List ℕ → Type 0 = λ x. Serves most x (ps ++ qs) (w ++ v) 0 end in
-    subst P (parts kept piece at)
+    subst (λ (x : List ℕ). Serves most x (ps ++ qs) (w ++ v) 0 end) (parts kept piece at)
     (Serves-then most MAX_SESSION_READS here 0 (kept ++ take at piece) (take (length piece - at) (drop at piece)) next w v ps qs end l (omega arith) a b)
 
 pub AllAnswered-whole : (at : ℕ) (kept piece next n w v : List ℕ) (ps qs : List Pair)
     → AllAnswered (kept ++ take at piece) ps next w → AllAnswered (next ++ take (length piece - at) (drop at piece)) qs n v
     → AllAnswered (kept ++ piece) (ps ++ qs) n (w ++ v)
 AllAnswered-whole at kept piece next n w v ps qs a b =
-    let P : List ℕ → Type 0 = λ x. AllAnswered x (ps ++ qs) n (w ++ v) in
-    subst P (parts kept piece at) (AllAnswered-then (kept ++ take at piece) (take (length piece - at) (drop at piece)) next n w v ps qs a b)
+    subst (λ (x : List ℕ). AllAnswered x (ps ++ qs) n (w ++ v)) (parts kept piece at) (AllAnswered-then (kept ++ take at piece) (take (length piece - at) (drop at piece)) next n w v ps qs a b)
 
 pub AllAnswered-further : (at used : ℕ) (kept piece next n w v : List ℕ) (ps qs : List Pair) → at ≤ length piece
     → AllAnswered (kept ++ take at piece) ps next w → AllAnswered (next ++ take used (take (length piece - at) (drop at piece))) qs n v
     → AllAnswered (kept ++ take (at + used) piece) (ps ++ qs) n (w ++ v)
 AllAnswered-further at used kept piece next n w v ps qs h a b =
-    let P : List ℕ → Type 0 = λ x. AllAnswered x (ps ++ qs) n (w ++ v) in
     let same : (kept ++ take at piece) ++ take used (take (length piece - at) (drop at piece)) ≡ kept ++ take (at + used) piece =
     append_assoc kept (take at piece) (take used (take (length piece - at) (drop at piece)))
     ∙ ap (λ x. kept ++ x) (ap (λ x. take at piece ++ take used x) (all_after piece at) ∙ sym (take_plus piece at used h)) in
-    subst P same (AllAnswered-then (kept ++ take at piece) (take used (take (length piece - at) (drop at piece))) next n w v ps qs a b)
+    subst (λ (x : List ℕ). AllAnswered x (ps ++ qs) n (w ++ v)) same (AllAnswered-then (kept ++ take at piece) (take used (take (length piece - at) (drop at piece))) next n w v ps qs a b)
 
 pub lengths : (ps qs : List Pair) (rs : List Request) (left here : ℕ) → length ps + here ≡ left → requests_of qs ≡ rs → length rs ≤ here
     → length (ps ++ qs) + (here - length rs) ≡ left
 lengths ps qs rs left here e f h = omega (arith, length-append {A = Pair} ps qs, length-asked qs, ap length f, e, h)
-
-pub ends_at-cut : (end : End) → IsCut end → ends_at end ≡ 0
-ends_at-cut end (inl a) = ap ends_at a
-ends_at-cut end (inr b) = ap ends_at b
 
 -- where a session goes on, it may as well end: as the link fails, as it comes to its end, and at the most reads
 pub Serves-fault : (most bound here reads : ℕ) (taken next written : List ℕ) (ps : List Pair) → length ps + here ≡ most → reads ≤ bound

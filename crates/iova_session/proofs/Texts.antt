@@ -13,15 +13,12 @@ pub take_plus : {A : Type 0} (xs : List A) (i n : ℕ) → i ≤ length xs → t
 take_plus {A} xs i n h =
     let whole : take i xs ++ drop i xs ≡ xs = take-append-drop i xs in
     let long : length (take i xs) ≡ i = omega (arith, length-take i xs) in
-    let P : List A → Type 0 = λ x. take (i + n) x ≡ take i xs ++ take n (drop i xs) in
-    let Q : ℕ → Type 0 = λ k. take (k + n) (take i xs ++ drop i xs) ≡ take i xs ++ take n (drop i xs) in
-    subst P whole (subst Q long (take-append-add (take i xs) (drop i xs) n))
+    subst (λ (x : List A). take (i + n) x ≡ take i xs ++ take n (drop i xs)) whole (subst (λ (k : ℕ). take (k + n) (take i xs ++ drop i xs) ≡ take i xs ++ take n (drop i xs)) long (take-append-add (take i xs) (drop i xs) n))
 
 -- `&xs[i..]`
 pub all_after : {A : Type 0} (xs : List A) (i : ℕ) → take (length xs - i) (drop i xs) ≡ drop i xs
 all_after {A} xs i =
-    let P : ℕ → Type 0 = λ k. take k (drop i xs) ≡ drop i xs in
-    subst P (length-drop i xs) (take-length (drop i xs))
+    subst (λ (k : ℕ). take k (drop i xs) ≡ drop i xs) (length-drop i xs) (take-length (drop i xs))
 
 pub requests_text-append : (rs qs : List Request) → requests_text (rs ++ qs) ≡ requests_text rs ++ requests_text qs
 unfolding requests_text
@@ -76,14 +73,6 @@ requests_of-nil = refl
 pub answers_of-nil : answers_of [] ≡ []
 unfolding answers_of
 answers_of-nil = refl
-
-pub requests_of-one : (p : Pair) → requests_of (p ∷ []) ≡ p.request ∷ []
-unfolding requests_of
-requests_of-one p = refl
-
-pub answers_of-one : (p : Pair) → answers_of (p ∷ []) ≡ p.answer ∷ []
-unfolding answers_of
-answers_of-one p = refl
 
 pub none_told : [] ≡ answers_text (answers_of [])
 none_told = sym (ap answers_text answers_of-nil ∙ answers_text-nil)

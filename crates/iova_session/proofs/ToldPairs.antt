@@ -1,14 +1,13 @@
 -- What a batch answers, as pairs, and how the shares move by it.
-use Rattle.std.proofs.Common.{ℕ, ◌≡◌, ◌+◌, ◌≤◌, List, [], ◌∷◌, ◌++◌, Option, Some, None, refl, sym, ap, ◌∙◌, arith, subst, length-append, append-nil, rules, ◌<◌, drop, get_or}
+use Rattle.std.proofs.Common.{ℕ, ◌≡◌, ◌≤◌, List, [], ◌∷◌, ◌++◌, Option, Some, None, refl, sym, ap, ◌∙◌, arith, subst, length-append, append-nil, rules, get_or}
 use Rattle.std.proofs.lemmas.Grind.{common_steps}
-use Rattle.std.proofs.lemmas.List.{drop_more}
 use Rattle.iova_range.specs.declared.refusal.Refusal.{Refusal}
 use Rattle.iova_range.specs.declared.refusal.Refusal.TheVariants as refusal
 use Rattle.iova_keep.specs.Views.{SeatState, range_of}
 use Rattle.iova_keep.specs.declared.unmapped.Unmapped.{Unmapped}
 use Rattle.iova_keep.specs.declared.unmapped.Unmapped.TheVariants as unmapped
 use Rattle.iova_model.specs.declared.step.Reply.TheVariants as reply
-use Rattle.std.specs.Prelude.{IsSome, IfOk, IfErr, Result, Ok, Err, length, take, map}
+use Rattle.std.specs.Prelude.{IfOk, IfErr, Result, Ok, Err, length, take, map}
 use Rattle.std.proofs.lemmas.List.Sums.{sum_by-append}
 use Rattle.iova_range.specs.Frames.{Frames}
 use Rattle.iova_model.specs.declared.totals.Totals.{Totals}
@@ -22,7 +21,7 @@ use Rattle.iova_proto.specs.declared.answer.Answer.{Answer}
 use Rattle.iova_proto.specs.declared.request.Request.{Request}
 use Rattle.iova_proto.specs.declared.request.Request.TheVariants as request
 use Rattle.iova_session.specs.Pairs.{Pair, requests_of, answers_of}
-use Rattle.iova_session.specs.Desks.{IsClientAnswer, answer_of_release, given_by, taken_by, given_in, taken_in, MovesBy, asks_in, ask_of, ask_then, answer_of, told_pairs, IsToldTo, AreTold, IsFirstAlone, IsAnswer, SessionState, AnswersRun}
+use Rattle.iova_session.specs.Desks.{IsClientAnswer, answer_of_release, given_by, taken_by, given_in, taken_in, MovesBy, asks_in, ask_of, ask_then, answer_of, told_pairs, IsToldTo, AreTold, IsFirstAlone, SessionState, AnswersRun}
 
 pub same_totals : (a b : Totals) → a.count ≡ b.count → a.frames ≡ b.frames → a.sum_lo ≡ b.sum_lo → a ≡ b
 same_totals a b count frames sum_lo = λ i. record { count = count i; frames = frames i; sum_lo = sum_lo i }
@@ -37,6 +36,13 @@ moves_on g h t u a b c x y =
 
 pub no_move : (a b : Totals) → b ≡ a → MovesBy [] [] a b
 no_move a b e = ap (λ (t : Totals). add_totals t (totals_of [])) e
+
+-- nothing was given, and nothing taken
+pub shares_stay : (old new : Totals) → MovesBy [] [] old new → new ≡ old
+shares_stay old new m = same_totals new old
+    (let e = ap (λ (x : Totals). x.count) m in omega (arith, e))
+    (let e = ap (λ (x : Totals). x.frames) m in omega (arith, e))
+    (let e = ap (λ (x : Totals). x.sum_lo) m in omega (arith, e))
 
 -- what a hold answers moves the shares as the line's answer says
 pub told_moves : (x : Told) (a b : Totals) → MovesTold x a b → MovesBy (given_by (answer_of x)) (taken_by (answer_of x)) a b
@@ -98,11 +104,7 @@ pub first_alone : (rs : List Request) → MayStop (asks_in rs) → IsFirstAlone 
 first_alone [] h = tt
 first_alone (request.Alloc frames limit ∷ rs) h = absurd h
 first_alone (request.Stat ∷ rs) h = absurd h
-first_alone (request.Hello domain sac ∷ rs) h = tt
-first_alone (request.Free lo ∷ rs) h = tt
-first_alone (request.List ∷ rs) h = tt
-first_alone (request.Flush ∷ rs) h = tt
-first_alone (request.Bye ∷ rs) h = tt
+first_alone (r ∷ rs) h = tt
 
 -- where no ask stands at the front, the first request is asked alone
 pub none_in_front : (rs : List Request) (asks : List Ask) (n : ℕ) → n ≡ 0 → take n asks ≡ asks_in rs → IsFirstAlone rs
@@ -135,35 +137,6 @@ pub told_short : (rs : List Request) (xs : List Told) → AreTold rs xs → leng
 told_short rs [] h = omega arith
 told_short [] (x ∷ xs) h = absurd h
 told_short (r ∷ rs) (x ∷ xs) h = omega (arith, told_short rs xs h.1)
-
-told_first : (rs : List Request) (xs : List Told) (r : Request) (x : Told) (ss : List Request) (ys : List Told) → rs ≡ r ∷ ss → xs ≡ x ∷ ys → AreTold rs xs → IsToldTo (ask_of r) x
-told_first rs xs r x ss ys e f h = (subst (λ (vs : List Told). AreTold (r ∷ ss) vs) f (subst (λ (qs : List Request). AreTold qs xs) e h)).0
-
--- what stands at a place is what the request there is answered
-pub told_at : (rs : List Request) (xs : List Told) (i : ℕ) (r : Request) (x : Told) → i < length xs → length xs ≤ length rs → AreTold (drop i rs) (drop i xs)
-    → IsToldTo (ask_of (get_or rs i r)) (get_or xs i x)
-told_at rs xs i r x lt short h =
-    told_first (drop i rs) (drop i xs) (get_or rs i r) (get_or xs i x) (drop (i + 1) rs) (drop (i + 1) xs) (drop_more rs i r (omega (arith, lt, short))) (drop_more xs i x lt) h
-
--- and it is an answer to it
-pub told_answers : (number : ℕ) (client : Option ℕ) (listed : ℕ) (r : Request) (x : Told) → IsSome client → IsToldTo (ask_of r) x → IsAnswer number client listed r (answer_of x)
-told_answers number None listed r x some h = absurd cc
-told_answers number (Some id) listed (request.Alloc frames limit) (lock_told.Given q) some h = h
-told_answers number (Some id) listed (request.Alloc frames limit) (lock_told.Refused e) some h = h
-told_answers number (Some id) listed (request.Alloc frames limit) (lock_told.Queued q) some h = absurd h
-told_answers number (Some id) listed (request.Alloc frames limit) (lock_told.Stat q) some h = absurd h
-told_answers number (Some id) listed (request.Free lo) (lock_told.Queued q) some h = h
-told_answers number (Some id) listed (request.Free lo) (lock_told.Refused e) some h = h.0
-told_answers number (Some id) listed (request.Free lo) (lock_told.Given q) some h = absurd h
-told_answers number (Some id) listed (request.Free lo) (lock_told.Stat q) some h = absurd h
-told_answers number (Some id) listed request.Stat (lock_told.Stat q) some h = tt
-told_answers number (Some id) listed request.Stat (lock_told.Refused e) some h = absurd h
-told_answers number (Some id) listed request.Stat (lock_told.Given q) some h = absurd h
-told_answers number (Some id) listed request.Stat (lock_told.Queued q) some h = absurd h
-told_answers number (Some id) listed (request.Hello domain sac) x some h = absurd h
-told_answers number (Some id) listed request.List x some h = absurd h
-told_answers number (Some id) listed request.Flush x some h = absurd h
-told_answers number (Some id) listed request.Bye x some h = absurd h
 
 -- nothing is asked
 pub none_asked : (rs : List Request) (s : SessionState) (answers : List Answer) (held : Totals) → AnswersRun rs 0 s s answers answers held held

@@ -1,4 +1,4 @@
-use Rattle.std.proofs.Common.{◌≡◌, ◌∙◌, ◌+◌, ◌-◌, ◌≤◌, ◌++◌, [], ℕ, List, sym, ap, subst, take, drop, length, arith, refl, length-take, length-drop, append_assoc, append-nil, inr}
+use Rattle.std.proofs.Common.{◌≡◌, ◌∙◌, ◌+◌, ◌-◌, ◌≤◌, ◌++◌, [], ℕ, sym, ap, subst, take, drop, length, arith, refl, length-take, length-drop, append_assoc, append-nil, inr}
 use Rattle.std.proofs.KnownBytes.{Appends-nil}
 use Rattle.std.specs.Io.KnownBytes.{Appends}
 use Rattle.iova_proto.specs.declared.request.Request.{Request}
@@ -8,18 +8,17 @@ use Rattle.iova_session.proofs.Runs.{asked_rest, asked_more, told_more, told_par
 use Rattle.iova_session.proofs.answering.ask_all.Goals as goal
 
 pub asking-init : goal.asking-init
-asking-init g c =
-    let P : List ℕ → Type 0 = λ x. Appends (g.L.Link.sent c.args.link.now) (g.L.Link.sent c.args.link.now) x in record {
-      fits = omega arith;
-      left = refl;
-      reads = refl;
-      ends = refl;
-      failures = refl;
-      ps = [];
-      pairs = sym (append-nil (g.D.Desk.pairs c.args.desk.now));
-      sent = subst P none_told (Appends-nil (g.L.Link.sent c.args.link.now));
-      front = requests_of-nil;
-    }
+asking-init g c = record {
+  fits = omega arith;
+  left = refl;
+  reads = refl;
+  ends = refl;
+  failures = refl;
+  ps = [];
+  pairs = sym (append-nil (g.D.Desk.pairs c.args.desk.now));
+  sent = subst (Appends (g.L.Link.sent c.args.link.now) (g.L.Link.sent c.args.link.now)) none_told (Appends-nil (g.L.Link.sent c.args.link.now));
+  front = requests_of-nil;
+}
 
 pub returns-in-Err-clause-asked : goal.returns-in-Err-clause-asked
 returns-in-Err-clause-asked g c =

@@ -1,11 +1,11 @@
-use Rattle.std.proofs.Common.{sym, ap, ◌∙◌, subst}
+use Rattle.std.proofs.Common.{refl, sym, ap, ◌∙◌, subst}
 use Rattle.iova_proto.specs.declared.answer.Answer.{Answer}
 use Rattle.iova_proto.specs.declared.answer.Answer.TheVariants as answer
 use Rattle.iova_proto.specs.declared.request.Request.{Request}
 use Rattle.iova_proto.specs.declared.request.Request.TheVariants as request
 use Rattle.iova_session.specs.Desks.{IsClientAnswer, MovesBy, given_by, taken_by}
 use Rattle.iova_session.specs.Domains.{release_answer}
-use Rattle.iova_session.proofs.Alone.{free_does, flush_does, list_does, hello_does, bye_does}
+use Rattle.iova_session.proofs.Alone.{free_does, list_does, nothing_does}
 use Rattle.iova_session.proofs.ToldPairs.{released_answers, released_moves}
 use Rattle.iova_session.proofs.asking.ask_locked.Goals as goal
 
@@ -31,13 +31,13 @@ returns-in-Err-clause-does g c =
     (sym (ap release_answer c.in-Err.is)) c.release.ensures.domain
 
 pub returns-in-Hello-clause-does : goal.returns-in-Hello-clause-does
-returns-in-Hello-clause-does g c = hello_does _ _ _ c.args.seat.now c.args.id c.args.listed _ _ c.args.request _ c.in-Hello.is
+returns-in-Hello-clause-does g c = nothing_does _ _ _ c.args.seat.now c.args.id c.args.listed c.args.request _ _ _ c.in-Hello.is (λ s. (refl, refl, refl))
 
 pub returns-in-List-clause-does : goal.returns-in-List-clause-does
 returns-in-List-clause-does g c = list_does _ _ _ c.args.seat.now c.args.id c.args.listed c.args.request c.list.result _ c.in-List.is c.list.ensures.domain
 
 pub returns-in-Flush-clause-does : goal.returns-in-Flush-clause-does
-returns-in-Flush-clause-does g c = flush_does _ _ _ _ c.args.seat.now c.args.id c.args.listed c.args.request c.flush_and_drain.result _ _ c.in-Flush.is c.flush_and_drain.ensures.flushes
+returns-in-Flush-clause-does g c = rw c.in-Flush.is c.flush_and_drain.ensures.flushes
 
 pub returns-in-Bye-clause-does : goal.returns-in-Bye-clause-does
-returns-in-Bye-clause-does g c = bye_does _ _ _ c.args.seat.now c.args.id c.args.listed c.args.request _ c.in-Bye.is
+returns-in-Bye-clause-does g c = nothing_does _ _ _ c.args.seat.now c.args.id c.args.listed c.args.request _ _ _ c.in-Bye.is (λ s. (refl, refl, refl))

@@ -1,18 +1,14 @@
-use Rattle.std.proofs.Common.{◌≡◌, ◌+◌, ◌-◌, ◌≤◌, ◌++◌, [], ℕ, List, refl, sym, ap, ◌∙◌, subst, take, drop, length, arith, length-append, length-take, length-drop, Some, IfSome, IsSome}
-use Rattle.std.specs.Prelude.{Option, None}
+use Rattle.std.proofs.Common.{◌≡◌, ◌+◌, ◌-◌, ◌≤◌, ◌++◌, [], ℕ, List, sym, ap, ◌∙◌, subst, take, drop, length, arith, length-append, length-take, length-drop, Some, IfSome}
+use Rattle.std.specs.Prelude.{Option}
 use Rattle.iova_proto.specs.Feeds.{Feeds}
 use Rattle.iova_proto.specs.declared.fed.Fed.TheVariants as fed
 use Rattle.std.proofs.Math.Seq.{take-length}
 use Rattle.iova_session.specs.Rounds.{Gathers, IsLines}
 use Rattle.iova_session.specs.declared.gathering.Stop.TheVariants as stops
 use Rattle.iova_session.proofs.Byes.{HasNoBye-nil, EndsInBye-one}
-use Rattle.iova_session.proofs.Gathered.{IsLines-none, IsLines-rest, IsLines-one, begins_request, no_bye_more}
+use Rattle.iova_session.proofs.Gathered.{some_kept, IsLines-none, IsLines-rest, IsLines-one, begins_request, no_bye_more}
 use Rattle.iova_session.proofs.Taken.{IsUnended-none}
 use Rattle.iova_session.proofs.gathering.take_requests.Goals as goal
-
-some_kept : (o : Option (List ℕ)) → IsSome o → (k : List ℕ) × (o ≡ Some k)
-some_kept None h = absurd (cc)
-some_kept (Some k) h = (k, refl)
 
 if_kept : (o : Option (List ℕ)) (k : List ℕ) (P : List ℕ → Type 0) → o ≡ Some k → P k → IfSome o P
 if_kept o k P e p = let Q : Option (List ℕ) → Type 0 = λ x. IfSome x P in subst Q (sym e) p
@@ -37,8 +33,7 @@ returns-then-len-left-clause-gathered c =
     let inv = c.gathering.invariant in
     let rest = take (length c.args.piece.now - c.gathering.used) (drop c.gathering.used c.args.piece.now) in
     let f : Feeds inv.next rest (fed.Request c.in-Request.request c.in-Request.more) c.feed.new.self = rw inv.now at c.in-Request.ensures.fed in
-    let P : List ℕ → Type 0 = λ kept. Gathers c.args.left kept c.args.piece.now c.gathering.run.items c.gathering.used stops.Limit c.feed.new.self in
-    if_kept c.args.lines.now inv.kept P inv.began (
+    if_kept c.args.lines.now inv.kept (λ (kept : List ℕ). Gathers c.args.left kept c.args.piece.now c.gathering.run.items c.gathering.used stops.Limit c.feed.new.self) inv.began (
       inv.none,
       omega arith,
       (
@@ -54,9 +49,8 @@ returns-then-is_bye-clause-gathered c =
     let rest = take (length c.args.piece.now - c.gathering.used) (drop c.gathering.used c.args.piece.now) in
     let after = c.push.new.self.items in
     let f : Feeds inv.next rest (fed.Request c.in-Request.request c.in-Request.more) c.feed.new.self = rw inv.now at c.in-Request.ensures.fed in
-    let P : List ℕ → Type 0 = λ kept. Gathers c.args.left kept c.args.piece.now after (c.gathering.used + c.in-Request.more) stops.Bye c.feed.new.self in
     let one = EndsInBye-one c.gathering.run.items c.in-Request.request inv.none (c.is_bye.ensures.0 c.if-is_bye.true) in
-    if_kept c.args.lines.now inv.kept P inv.began (
+    if_kept c.args.lines.now inv.kept (λ (kept : List ℕ). Gathers c.args.left kept c.args.piece.now after (c.gathering.used + c.in-Request.more) stops.Bye c.feed.new.self) inv.began (
       rw c.push.ensures.items one,
       IsLines-one inv.kept c.args.piece.now inv.next c.gathering.run.items after c.in-Request.request c.gathering.used c.in-Request.more
           inv.used inv.lines f.spells c.push.ensures.items,
@@ -70,14 +64,12 @@ returns-then-used-piece-clause-gathered c =
     let rest = take (length piece - c.gathering.used) (drop c.gathering.used piece) in
     let after = c.push.new.self.items in
     let f : Feeds inv.next rest (fed.Request c.in-Request.request c.in-Request.more) c.feed.new.self = rw inv.now at c.in-Request.ensures.fed in
-    let P : List ℕ → Type 0 = λ kept. Gathers c.args.left kept piece after used stops.More c.feed.new.self in
     let all : take used piece ≡ piece = ap (λ n. take n piece) (c.if-used-piece.true) ∙ take-length piece in
     let lines = IsLines-one inv.kept piece inv.next c.gathering.run.items after c.in-Request.request c.gathering.used c.in-Request.more
     inv.used inv.lines f.spells c.push.ensures.items in
-    let Q : List ℕ → Type 0 = λ bytes. IsLines (inv.kept ++ bytes) after [] in
-    if_kept c.args.lines.now inv.kept P inv.began (
+    if_kept c.args.lines.now inv.kept (λ (kept : List ℕ). Gathers c.args.left kept piece after used stops.More c.feed.new.self) inv.began (
       no_bye_more c.gathering.run.items after c.in-Request.request inv.none (λ e. let t = c.is_bye.ensures.1 e in cc) c.push.ensures.items,
-      ([], subst Q all lines, IsUnended-none, f.next_is),
+      ([], subst (λ (bytes : List ℕ). IsLines (inv.kept ++ bytes) after []) all lines, IsUnended-none, f.next_is),
     )
 
 pub returns-then-len-eq-MAX_RUN-clause-gathered : goal.returns-then-len-eq-MAX_RUN-clause-gathered
@@ -86,8 +78,7 @@ returns-then-len-eq-MAX_RUN-clause-gathered c =
     let rest = take (length c.args.piece.now - c.gathering.used) (drop c.gathering.used c.args.piece.now) in
     let after = c.push.new.self.items in
     let f : Feeds inv.next rest (fed.Request c.in-Request.request c.in-Request.more) c.feed.new.self = rw inv.now at c.in-Request.ensures.fed in
-    let P : List ℕ → Type 0 = λ kept. Gathers c.args.left kept c.args.piece.now after (c.gathering.used + c.in-Request.more) stops.Full c.feed.new.self in
-    if_kept c.args.lines.now inv.kept P inv.began (
+    if_kept c.args.lines.now inv.kept (λ (kept : List ℕ). Gathers c.args.left kept c.args.piece.now after (c.gathering.used + c.in-Request.more) stops.Full c.feed.new.self) inv.began (
       no_bye_more c.gathering.run.items after c.in-Request.request inv.none (λ e. let t = c.is_bye.ensures.1 e in cc) c.push.ensures.items,
       IsLines-one inv.kept c.args.piece.now inv.next c.gathering.run.items after c.in-Request.request c.gathering.used c.in-Request.more
           inv.used inv.lines f.spells c.push.ensures.items,

@@ -1,5 +1,5 @@
 use Rattle.std.proofs.Common.{refl, arith}
-use Rattle.iova_session.proofs.Departures.{told_good}
+use Rattle.iova_session.proofs.Emptied.{told_good}
 use Rattle.iova_session.proofs.leaving.leave_with.Goals as goal
 
 pub returns-in-Ok-clause-place : goal.returns-in-Ok-clause-place

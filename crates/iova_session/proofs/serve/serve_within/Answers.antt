@@ -40,15 +40,14 @@ returns-in_default-clause-session g c = (
 
 pub returns-in_default-read-clause-session : goal.returns-in_default-read-clause-session
 returns-in_default-read-clause-session g c =
-    let inv = c.reading.invariant in
-    let P : Option (List ℕ) → Type 0 = λ x. Appends (g.L.Link.sent c.args.link.now) x inv.written in (
+    let inv = c.reading.invariant in (
       inv.taken,
       inv.ps,
       inv.written,
       c.reading.counter + 1,
       Consumes-kept (g.L.Link.left c.args.link.now) (g.L.Link.left c.reading.link) (g.L.Link.left c.read.new.self) inv.taken inv.consumed c.in_default-read.ensures.bytes,
       inv.pairs,
-      subst P (sym c.read.ensures.sent) inv.sent,
+      subst (λ (x : Option (List ℕ)). Appends (g.L.Link.sent c.args.link.now) x inv.written) (sym c.read.ensures.sent) inv.sent,
       omega (arith, c.read.ensures.reads, inv.reads),
       Serves-fault c.args.limits.requests c.args.limits.reads c.reading.left (c.reading.counter + 1) inv.taken inv.next inv.written inv.ps inv.count (omega arith) inv.goes,
     )
@@ -58,17 +57,15 @@ returns-then-n-eq0-clause-session g c =
     let inv = c.reading.invariant in
     let n = c.in-Ok.n in
     let none : take n c.read.new.buf ≡ [] = ap (λ k. take k c.read.new.buf) c.if-n-eq0.true in
-    let Q : List ℕ → Type 0 = λ x. Consumes (g.L.Link.left c.args.link.now) (g.L.Link.left c.read.new.self) x in
     let both = Consumes-trans (g.L.Link.left c.args.link.now) (g.L.Link.left c.reading.link) (g.L.Link.left c.read.new.self) inv.taken (take n c.read.new.buf)
-    inv.consumed c.in-Ok.ensures.bytes.0 in
-    let P : Option (List ℕ) → Type 0 = λ x. Appends (g.L.Link.sent c.args.link.now) x inv.written in (
+    inv.consumed c.in-Ok.ensures.bytes.0 in (
       inv.taken,
       inv.ps,
       inv.written,
       c.reading.counter + 1,
-      subst Q (ap (λ x. inv.taken ++ x) none ∙ append-nil inv.taken) both,
+      subst (Consumes (g.L.Link.left c.args.link.now) (g.L.Link.left c.read.new.self)) (ap (λ x. inv.taken ++ x) none ∙ append-nil inv.taken) both,
       inv.pairs,
-      subst P (sym c.read.ensures.sent) inv.sent,
+      subst (λ (x : Option (List ℕ)). Appends (g.L.Link.sent c.args.link.now) x inv.written) (sym c.read.ensures.sent) inv.sent,
       omega (arith, c.read.ensures.reads, inv.reads),
       Serves-closed c.args.limits.requests c.args.limits.reads c.reading.left (c.reading.counter + 1) inv.taken inv.next inv.written inv.ps inv.count (omega arith) inv.unended inv.goes,
     )
@@ -79,10 +76,8 @@ returns-in-Err-clause-session g c =
     let piece = take c.in-Ok.n c.read.new.buf in
     let got = c.in-Err.ensures.taken in
     let start : got.0 ≡ inv.next = let e = sym got.3 ∙ inv.now in cc in
-    let P : Option (List ℕ) → Type 0 = λ x. Appends (g.L.Link.sent c.args.link.now) x inv.written in
-    let sent = subst P (sym c.read.ensures.sent) inv.sent in
-    let R : Option (List ℕ) → Type 0 = λ x. Consumes (g.L.Link.left c.args.link.now) x (inv.taken ++ piece) in
-    let consumed = subst R (sym c.take_piece.ensures.left)
+    let sent = subst (λ (x : Option (List ℕ)). Appends (g.L.Link.sent c.args.link.now) x inv.written) (sym c.read.ensures.sent) inv.sent in
+    let consumed = subst (λ (x : Option (List ℕ)). Consumes (g.L.Link.left c.args.link.now) x (inv.taken ++ piece)) (sym c.take_piece.ensures.left)
     (Consumes-trans (g.L.Link.left c.args.link.now) (g.L.Link.left c.reading.link) (g.L.Link.left c.read.new.self) inv.taken piece inv.consumed c.in-Ok.ensures.bytes.0) in
     let pairs = got.4 ∙ ap (λ x. x ++ got.1) inv.pairs ∙ append_assoc (g.D.Desk.pairs c.args.desk.now) inv.ps got.1 in
     let wrote = Appends-trans (g.L.Link.sent c.args.link.now) (g.L.Link.sent c.read.new.self) (g.L.Link.sent c.take_piece.new.link) inv.written got.2 sent got.5 in
@@ -105,10 +100,8 @@ reading-preserved g c =
     let piece = take c.in-Ok.n c.read.new.buf in
     let got = c.in_default-take_piece.ensures.taken in
     let start : got.0 ≡ inv.next = let e = sym got.3 ∙ inv.now in cc in
-    let P : Option (List ℕ) → Type 0 = λ x. Appends (g.L.Link.sent c.args.link.now) x inv.written in
-    let sent = subst P (sym c.read.ensures.sent) inv.sent in
-    let R : Option (List ℕ) → Type 0 = λ x. Consumes (g.L.Link.left c.args.link.now) x (inv.taken ++ piece) in
-    let consumed = subst R (sym c.take_piece.ensures.left)
+    let sent = subst (λ (x : Option (List ℕ)). Appends (g.L.Link.sent c.args.link.now) x inv.written) (sym c.read.ensures.sent) inv.sent in
+    let consumed = subst (λ (x : Option (List ℕ)). Consumes (g.L.Link.left c.args.link.now) x (inv.taken ++ piece)) (sym c.take_piece.ensures.left)
     (Consumes-trans (g.L.Link.left c.args.link.now) (g.L.Link.left c.reading.link) (g.L.Link.left c.read.new.self) inv.taken piece inv.consumed c.in-Ok.ensures.bytes.0) in
     let pairs = got.4 ∙ ap (λ x. x ++ got.1) inv.pairs ∙ append_assoc (g.D.Desk.pairs c.args.desk.now) inv.ps got.1 in
     let wrote = Appends-trans (g.L.Link.sent c.args.link.now) (g.L.Link.sent c.read.new.self) (g.L.Link.sent c.take_piece.new.link) inv.written got.2 sent got.5 in
@@ -135,13 +128,12 @@ returns-clause-session g c =
     let inv = c.reading.invariant in
     let worn : c.reading.counter ≡ c.args.limits.reads = omega arith in
     let W = Serves-worn c.args.limits.requests c.args.limits.reads c.reading.left c.reading.counter inv.taken inv.next inv.written inv.ps (g.L.Link.sent c.reading.link) (g.L.Link.sent c.refuse.new.link)
-    c.refuse.result inv.count worn inv.unended inv.goes c.refuse.ensures.told in
-    let R : Option (List ℕ) → Type 0 = λ x. Consumes (g.L.Link.left c.args.link.now) x inv.taken in (
+    c.refuse.result inv.count worn inv.unended inv.goes c.refuse.ensures.told in (
       inv.taken,
       inv.ps,
       inv.written ++ W.0,
       c.reading.counter,
-      subst R (sym c.refuse.ensures.left) inv.consumed,
+      subst (λ (x : Option (List ℕ)). Consumes (g.L.Link.left c.args.link.now) x inv.taken) (sym c.refuse.ensures.left) inv.consumed,
       inv.pairs,
       Appends-trans (g.L.Link.sent c.args.link.now) (g.L.Link.sent c.reading.link) (g.L.Link.sent c.refuse.new.link) inv.written W.0 inv.sent W.1,
       c.refuse.ensures.reads ∙ inv.reads,
