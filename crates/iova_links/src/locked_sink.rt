@@ -1,5 +1,5 @@
 //! A sink that several threads share.
-ghost use Rattle.std.specs.Prelude.{◌≡◌, ◌++◌, true, is_ok, Ok};
+ghost use Rattle.std.specs.Prelude.{◌≡◌, ◌++◌, [], true, is_ok, Ok};
 ghost use Rattle.iova_sink.specs.Calls.{Invalidation, Gone, with_call, with_gone};
 ghost use Rattle.iova_links.specs.LockedSinks.{WasCalled};
 
@@ -119,7 +119,9 @@ impl<'a, R, D> Drop for LockedSink<'a, R, D> {
 
 impl<'a, R, D> LockedSink<'a, R, D> {
     /// This sink, of which no call was made here.
-    pub fn new(rt: &'a R, sink: &'a SharedSink<D>) -> LockedSink<'a, R, D> {
+    pub fn new(rt: &'a R, sink: &'a SharedSink<D>) -> LockedSink<'a, R, D>
+        ensures { result.calls ≡ [] }
+    {
         LockedSink {
             rt,
             sink,

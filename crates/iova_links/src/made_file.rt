@@ -1,4 +1,6 @@
 //! Files that a run makes.
+ghost use Rattle.std.specs.Prelude.{◌≡◌, IfSome};
+
 use std::fs;
 use std::fs::File;
 use std::os::unix::fs::MetadataExt;
@@ -14,7 +16,9 @@ pub struct MadeFile<'a> {
 
 impl<'a> MadeFile<'a> {
     /// The file that stands at this path now. None where there is none.
-    pub fn at<R: Files<File = File>>(rt: &R, path: &'a str) -> Option<MadeFile<'a>> {
+    pub fn at<R: Files<File = File>>(rt: &R, path: &'a str) -> Option<MadeFile<'a>>
+        ensures { IfSome result (λ f. f.path.now ≡ path.now) }
+    {
         match fs::symlink_metadata(rt, path) {
             Ok(metadata) => Some(MadeFile {
                 path,
@@ -26,7 +30,9 @@ impl<'a> MadeFile<'a> {
     }
 
     /// Its path.
-    pub fn path(&self) -> &'a str {
+    pub fn path(&self) -> &'a str
+        ensures { result.now ≡ self.now.path.now }
+    {
         self.path
     }
 

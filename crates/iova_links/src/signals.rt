@@ -1,4 +1,6 @@
 //! What the threads of a daemon share: whether it is to stop, and what was counted.
+ghost use Rattle.std.specs.Prelude.{◌≡◌};
+
 use iova_range::limits::MAX_REFUSAL;
 use iova_sink::stop_deadline::StopDeadline;
 use std::array;
@@ -42,7 +44,9 @@ impl Signals {
     /// Nobody has asked for a stop, and nothing is counted. The daemon's threads have so many
     /// processors; 0 where that isn't known. It has started so many seconds after the beginning of
     /// 1970.
-    pub fn new(processors: u64, started: u64) -> Signals {
+    pub fn new(processors: u64, started: u64) -> Signals
+        ensures { (result.processors ≡ processors) × (result.started ≡ started) }
+    {
         Signals {
             processors,
             started,
@@ -119,7 +123,9 @@ impl Signals {
     }
 
     /// When the daemon has started, in seconds since the beginning of 1970.
-    pub fn started(&self) -> u64 {
+    pub fn started(&self) -> u64
+        ensures { result ≡ self.now.started }
+    {
         self.started
     }
 
