@@ -1,5 +1,5 @@
 //! A daemon's control socket: what the daemon does now, asked in lines, and its stop.
-ghost use Rattle.std.specs.Prelude.{◌≡◌, ◌<◌, ◌≤◌, ◌++◌, false, length, true};
+ghost use Rattle.std.specs.Prelude.{◌≡◌, ◌<◌, ◌≤◌, ◌++◌, [], false, length, true};
 ghost use Rattle.iova_control.specs.Texts.{answer_text};
 ghost use Rattle.iova_range.specs.declared.limits.TheConstants.{MAX_DAEMON_NAME};
 
@@ -68,7 +68,10 @@ impl Facts {
     pub fn new(version: &str, workers: u64) -> Facts
         ensures numbers { (result.workers ≡ workers) × (result.clients ≡ workers)
             × (result.granule ≡ FRAME_BYTES) }
-        ensures plain { (result.has_peer ≡ false) × (result.is_recorded ≡ false) }
+        ensures plain { (result.has_peer ≡ false) × (result.is_recorded ≡ false)
+            × (result.name.bytes ≡ []) }
+        ensures version { length version.now ≤ MAX_VERSION → result.version.bytes ≡ version.now }
+        ensures too_long { MAX_VERSION < length version.now → result.version.bytes ≡ [] }
     {
         let mut kept = ArrayString::new();
         let _ = kept.try_push_str(version);
