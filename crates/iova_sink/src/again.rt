@@ -1,5 +1,5 @@
 //! Calls that a signal interrupted, made again.
-ghost use Rattle.std.specs.Prelude.{◌≤◌, IfOk, length};
+ghost use Rattle.std.specs.Prelude.{◌≡◌, ◌≤◌, IfOk, IsErr, length, true};
 
 use crate::soon::read_from;
 use std::io;
@@ -12,7 +12,9 @@ use std::time::Duration;
 const MOST: u64 = 1_000_000;
 
 /// Whether a signal interrupted the call: then it has moved no byte.
-pub fn is_interrupted(done: &io::Result<usize>) -> bool {
+pub fn is_interrupted(done: &io::Result<usize>) -> bool
+    ensures { result ≡ true → IsErr done.now }
+{
     match done {
         Ok(_) => false,
         Err(error) => error.kind() == ErrorKind::Interrupted,
