@@ -1,4 +1,6 @@
 //! The sockets that a daemon listens on.
+ghost use Rattle.std.specs.Prelude.{◌≡◌, IfSome};
+
 use crate::cause::tell_cause;
 use arrayvec::ArrayString;
 use iova_links::made_file::MadeFile;
@@ -49,7 +51,9 @@ impl<'a> Drop for Listening<'a> {
 
 impl<'a> Listening<'a> {
     /// What accepts, and the socket's file.
-    pub fn into_parts(self) -> (UnixListener, MadeFile<'a>) {
+    pub fn into_parts(self) -> (UnixListener, MadeFile<'a>)
+        ensures { (result.0 ≡ self.entry.listener) × (result.1 ≡ self.entry.file) }
+    {
         let Listening { listener, file } = self;
         (listener, file)
     }
@@ -66,6 +70,7 @@ pub fn listen<'a, R, N>(rt: &R, notices: &N, path: &'a str, access: Access) -> O
 where
     R: Clock + Net + Files<File = File>,
     N: Log,
+    ensures { IfSome result (λ l. l.file.path.now ≡ path.now) }
 {
     let listener = match bound(rt, path, access) {
         Ok(listener) => listener,

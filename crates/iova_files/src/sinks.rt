@@ -1,4 +1,7 @@
 //! The sinks of a daemon: files that take records, or connections to a peer that answers.
+ghost use Rattle.std.specs.Prelude.{◌≡◌, unwrap_or};
+ghost use Rattle.iova_range.specs.declared.limits.TheConstants.{SINK_TIMEOUT};
+
 use crate::cause::tell_cause;
 use iova_command::plan::Plan;
 use iova_command::sink_path::SinkPath;
@@ -89,7 +92,11 @@ pub struct SinkPlace<'a> {
 
 impl<'a> SinkPlace<'a> {
     /// The plan's.
-    pub fn of(plan: &Plan<'a>) -> SinkPlace<'a> {
+    pub fn of(plan: &Plan<'a>) -> SinkPlace<'a>
+        ensures path { result.path ≡ plan.now.sink }
+        ensures seconds { result.seconds ≡ unwrap_or plan.now.sink_timeout SINK_TIMEOUT }
+        ensures wait { result.wait ≡ unwrap_or plan.now.peer_wait 0 }
+    {
         SinkPlace {
             path: plan.sink,
             seconds: plan.sink_timeout.unwrap_or(SINK_TIMEOUT),
@@ -98,7 +105,9 @@ impl<'a> SinkPlace<'a> {
     }
 
     /// This place, at which nobody waits for a peer that isn't there.
-    pub fn at_once(self) -> SinkPlace<'a> {
+    pub fn at_once(self) -> SinkPlace<'a>
+        ensures { result ≡ record self.entry { wait = 0 } }
+    {
         SinkPlace { wait: 0, ..self }
     }
 }
