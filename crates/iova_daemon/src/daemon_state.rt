@@ -13,15 +13,14 @@ use std::rt::Clock;
 use std::sync::atomic::{AtomicBool, AtomicU64, Ordering};
 use std::sync::{Mutex, Wait};
 
-/// The gate that session threads wait at until all are started, what is served, the next session's
-/// number, how many sessions had their accept, who waits, and how many session threads have ended.
+/// The gate that session threads wait at until all are started, what is served, how many sessions
+/// had their accept, who waits, and how many session threads have ended.
 #[derive(Drop)]
 pub(crate) struct DaemonState {
     /// Held while threads are started; then whether all were, so that none accepts a link where one
     /// couldn't be.
     pub gate: Mutex<bool>,
     serving: Serving,
-    next: AtomicU64,
     met: AtomicU64,
     served: AtomicU64,
     full: AtomicU64,
@@ -51,7 +50,6 @@ impl DaemonState {
         DaemonState {
             gate: Mutex::new(false),
             serving,
-            next: AtomicU64::new(0),
             met: AtomicU64::new(0),
             served: AtomicU64::new(0),
             full: AtomicU64::new(0),
@@ -76,16 +74,6 @@ impl DaemonState {
     /// How many sessions are served at a time, at most: 1 at least.
     pub(crate) fn clients(&self) -> u64 {
         self.serving.clients.max(1)
-    }
-
-    /// The next session's number, counted from 0; none where all were taken. It begins anew behind
-    /// 2^64 - 1.
-    pub(crate) fn next_session(&self) -> Option<u64> {
-        let session = self.next.fetch_add(1, Ordering::SeqCst);
-        match self.serving.sessions {
-            Some(sessions) if session >= sessions => None,
-            _ => Some(session),
-        }
     }
 
     /// Counts a session that was accepted. Whether it is the last one.

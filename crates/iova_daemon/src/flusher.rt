@@ -96,25 +96,16 @@ where
     ghost calls = { λ f. D.calls f.sink };
 
     /// Makes a round after each pause, until a pause says stop or all workers have ended. A round
-    /// that is refused is a notice; one whose sink failed is told there, and behind each of them
-    /// the pause is twice as long, up to a second. Where a round freed many entries or a flush was
-    /// made ahead before it, it flushes ahead in place of the next pause.
+    /// that is refused is a notice, and behind each whose sink failed the pause is twice as long,
+    /// up to a second. Where a round freed many entries or a flush was made ahead before it, it
+    /// flushes ahead in place of the next pause.
     fn go_on(&mut self) {
         self.daemon_state.end_round(milliseconds(self.rt));
         for _ in self.rt.forever() {
             if !rests(&mut self.pause, self.daemon_state, self.rest) {
                 return;
             }
-            let looked = self.busy.is_busy
-                && go_ahead(
-                    self.notices,
-                    &mut self.keeper,
-                    &mut self.tally,
-                    &mut self.sink,
-                    &mut self.pause,
-                    self.daemon_state,
-                    &mut self.busy,
-                );
+            let looked = self.busy.is_busy && self.go_ahead();
             if (!looked && !self.pause.pause()) || self.daemon_state.have_ended() {
                 return;
             }
@@ -128,6 +119,57 @@ where
             note_round(self.notices, round);
         }
         unreachable!()
+    }
+}
+
+impl<'e, R, N, K, B, D, P> Flusher<'e, R, N, K, B, D, P>
+where
+    N: Log,
+    B: Names,
+    K: Keep<B>,
+    D: Sink,
+    P: Pause,
+{
+    /// Flushes before the next round is due, where so much waits in rings that workers would soon
+    /// find them full: so these needn't flush themselves, and wait for the sink. What was flushed
+    /// they drain at their next unmap; so rings in which as much waits as at the last flush made
+    /// here have most likely nothing new. False where it ended early: where no look is to be made,
+    /// where all workers have ended, and where a flush is refused, which is a notice.
+    fn go_ahead(&mut self) -> bool
+        ensures { KeepsTally self.old.tally self.new.tally (D.calls self.old.sink)
+            (D.calls self.new.sink) }
+    {
+        self.busy.is_busy = false;
+        let mut start = self.keeper.stat().start;
+        let mut flushed = 0;
+        for _ in 0..LOOKS {
+            if self.daemon_state.have_ended() || !self.pause.pause_shortly() {
+                return false;
+            }
+            let stat = self.keeper.stat();
+            let mut mark = self.busy.mark;
+            if stat.start != start {
+                // a worker found its ring full
+                start = stat.start;
+                mark = mark.saturating_sub(mark / FALL).max(FLUSH_AHEAD / 2);
+                self.busy.mark = mark;
+            }
+            if stat.ring >= mark && stat.ring != flushed {
+                flushed = stat.ring;
+                match flush(&mut self.keeper, &mut self.tally, &mut self.sink) {
+                    Ok(number) => {
+                        start = number;
+                        self.busy.is_busy = true;
+                        self.busy.mark = mark.saturating_add(mark / 16);
+                    }
+                    Err(refusal) => {
+                        note_round(self.notices, Err(refusal));
+                        return false;
+                    }
+                }
+            }
+        }
+        true
     }
 }
 
@@ -151,61 +193,7 @@ fn rest_behind(round: Result<u64, Refusal>, rest: u64) -> u64 {
     }
 }
 
-/// Flushes before the next round is due, where so much waits in rings that workers would soon find
-/// them full: so these needn't flush themselves, and wait for the sink. What was flushed they drain
-/// at their next unmap; so rings in which as much waits as at the last flush made here have most
-/// likely nothing new. False where it ended early: where no look is to be made, where all workers
-/// have ended, and where a flush is refused, which is a notice.
-fn go_ahead<N, B, K, D, P>(
-    notices: &N,
-    keeper: &mut K,
-    tally: &mut Tally<B>,
-    sink: &mut D,
-    pause: &mut P,
-    daemon_state: &DaemonState,
-    busy: &mut Busy,
-) -> bool
-where
-    N: Log,
-    B: Names,
-    K: Keep<B>,
-    D: Sink,
-    P: Pause,
-    ensures { KeepsTally tally.old tally.new (D.calls sink.old) (D.calls sink.new) }
-{
-    busy.is_busy = false;
-    let mut start = keeper.stat().start;
-    let mut flushed = 0;
-    for _ in 0..LOOKS {
-        if daemon_state.have_ended() || !pause.pause_shortly() {
-            return false;
-        }
-        let stat = keeper.stat();
-        if stat.start != start {
-            // a worker found its ring full
-            start = stat.start;
-            let less = busy.mark.saturating_sub(busy.mark / FALL);
-            busy.mark = less.max(FLUSH_AHEAD / 2);
-        }
-        if stat.ring >= busy.mark && stat.ring != flushed {
-            flushed = stat.ring;
-            match flush(keeper, tally, sink) {
-                Ok(number) => {
-                    start = number;
-                    busy.is_busy = true;
-                    busy.mark = busy.mark.saturating_add(busy.mark / 16);
-                }
-                Err(refusal) => {
-                    note_round::<N>(notices, Err(refusal));
-                    return false;
-                }
-            }
-        }
-    }
-    true
-}
-
-/// A round that is refused is a notice. A sink that failed tells so itself.
+/// A round that is refused is a notice. Of a sink that failed there is one already (`NotingSink`).
 fn note_round<N: Log>(notices: &N, round: Result<u64, Refusal>) {
     match round {
         Ok(_) | Err(Refusal::SinkFault) => {}

@@ -223,7 +223,7 @@ where
         unreachable!()
     };
     let daemon_state = DaemonState::new(service.alloc, service.serving, posts.len() as u64);
-    let pool: Pool<L> = Pool::new(service.alloc);
+    let pool: Pool<L> = Pool::new(service.alloc, service.serving);
     let context = WorkerContext {
         rt: service.rt,
         alloc: service.alloc,

@@ -5,7 +5,7 @@
 ghost use Rattle.std.specs.Prelude.{◌<◌};
 ghost use Rattle.iova_range.specs.declared.limits.TheConstants.{MAX_WORKERS};
 
-use crate::daemon_state::DaemonState;
+use crate::Serving;
 use iova_links::loads::{Load, fewest, may_serve, place_of};
 use iova_range::limits::{MAX_WORKERS, RETRY_PAUSE};
 use std::alloc::Global;
@@ -45,10 +45,22 @@ pub(crate) struct Pool<L> {
 }
 
 impl<L: Drop> Pool<L> {
-    /// No post has come, and no session is served.
-    pub(crate) fn new(alloc: Global) -> Pool<L> {
+    /// No post has come, and none of these sessions is served.
+    pub(crate) fn new(alloc: Global, serving: Serving) -> Pool<L> {
         Pool {
-            state: Mutex::new(State::new(alloc)),
+            state: Mutex::new(State {
+                serving,
+                is_led: false,
+                has_ended: false,
+                next: 0,
+                number: None,
+                served: 0,
+                loads: [Load {
+                    free: 0,
+                    sessions: 0,
+                }; MAX_WORKERS as usize],
+                handed: Vec::new(alloc),
+            }),
             bells: array::from_fn(|_worker| Condvar::new()),
             rest: Condvar::new(),
         }
@@ -61,17 +73,11 @@ impl<L: Drop> Pool<L> {
     }
 
     /// A post of the worker waits for what it is to do, where it rests for a second at most.
-    pub(crate) fn wait<R: Wait + Clock>(
-        &self,
-        rt: &R,
-        daemon_state: &DaemonState,
-        worker: u64,
-        rests: bool,
-    ) -> Turn<L> {
+    pub(crate) fn wait<R: Wait + Clock>(&self, rt: &R, worker: u64, rests: bool) -> Turn<L> {
         let at = place_of(worker);
-        let turn = self.turn(rt, daemon_state, at, rests);
+        let turn = self.turn(rt, at, rests);
         match turn {
-            Turn::Serve(_) => self.wake(rt, daemon_state, at, false),
+            Turn::Serve(_) => self.wake(rt, at, false),
             Turn::End => self.wake_all(),
             Turn::Lead(_) | Turn::Again => {}
         }
@@ -79,18 +85,12 @@ impl<L: Drop> Pool<L> {
     }
 
     /// What the post is to do next; `wait` wakes others where they have to know of it.
-    fn turn<R: Wait + Clock>(
-        &self,
-        rt: &R,
-        daemon_state: &DaemonState,
-        at: usize,
-        rests: bool,
-    ) -> Turn<L>
+    fn turn<R: Wait + Clock>(&self, rt: &R, at: usize, rests: bool) -> Turn<L>
         requires { at < MAX_WORKERS }
     {
         let mut state = self.state.lock(rt);
         state.come(at, rests);
-        if let Some(turn) = state.turn(daemon_state, at, rests) {
+        if let Some(turn) = state.turn(at, rests) {
             return turn;
         }
         let mut state = if rests {
@@ -99,7 +99,7 @@ impl<L: Drop> Pool<L> {
         } else {
             self.bells[at].wait(rt, state)
         };
-        match state.turn(daemon_state, at, rests) {
+        match state.turn(at, rests) {
             // those that have slept try their waiting clients a last time, each at once
             Some(Turn::End) => {
                 drop(state);
@@ -119,7 +119,6 @@ impl<L: Drop> Pool<L> {
     pub(crate) fn assign<R: Wait>(
         &self,
         rt: &R,
-        daemon_state: &DaemonState,
         worker: u64,
         accepted: Accepted<L>,
         rests: bool,
@@ -128,16 +127,14 @@ impl<L: Drop> Pool<L> {
         let assigned = self.state.lock(rt).assign(at, accepted, rests);
         match assigned {
             Ok(other) => {
-                if let Some(bell) = self.bells.get(other) {
-                    bell.notify_one();
-                }
+                self.ring(other);
                 if rests {
-                    self.wake(rt, daemon_state, at, true);
+                    self.wake(rt, at, true);
                 }
                 None
             }
             Err(accepted) => {
-                self.wake(rt, daemon_state, at, true);
+                self.wake(rt, at, true);
                 Some(accepted)
             }
         }
@@ -145,32 +142,19 @@ impl<L: Drop> Pool<L> {
 
     /// The leader, a post of this worker, got no link, and leads no more. The session's number may
     /// be used up.
-    pub(crate) fn give_way<R: Wait>(
-        &self,
-        rt: &R,
-        daemon_state: &DaemonState,
-        worker: u64,
-        is_used_up: bool,
-        rests: bool,
-    ) {
+    pub(crate) fn give_way<R: Wait>(&self, rt: &R, worker: u64, is_used_up: bool, rests: bool) {
         let at = place_of(worker);
         self.state.lock(rt).give_way(at, is_used_up, rests);
         if rests {
-            self.wake(rt, daemon_state, at, true);
+            self.wake(rt, at, true);
         }
     }
 
     /// A session of this worker has ended, at a post that may rest now.
-    pub(crate) fn leave<R: Wait>(
-        &self,
-        rt: &R,
-        daemon_state: &DaemonState,
-        worker: u64,
-        rests: bool,
-    ) {
+    pub(crate) fn leave<R: Wait>(&self, rt: &R, worker: u64, rests: bool) {
         let at = place_of(worker);
         self.state.lock(rt).leave(at);
-        self.wake(rt, daemon_state, at, rests);
+        self.wake(rt, at, rests);
     }
 
     /// No session is to come.
@@ -182,22 +166,19 @@ impl<L: Drop> Pool<L> {
     /// Wakes a post that is to lead, where nobody does: a free one of the worker that the next link
     /// would go to. Where none is free, one that rests, if whoever asks for it is away for longer:
     /// at a session, or at a try of its clients.
-    fn wake<R: Wait>(&self, rt: &R, daemon_state: &DaemonState, at: usize, is_away: bool) {
-        let (is_wanted, next) = self.state.lock(rt).next_leader(daemon_state, at);
-        if !is_wanted {
-            return;
-        }
+    fn wake<R: Wait>(&self, rt: &R, at: usize, is_away: bool) {
+        let (is_wanted, next) = self.state.lock(rt).next_leader(at);
         match next {
-            Some(next) => {
-                if let Some(bell) = self.bells.get(next) {
-                    bell.notify_one();
-                }
-            }
-            None => {
-                if is_away {
-                    self.rest.notify_one();
-                }
-            }
+            Some(next) if is_wanted => self.ring(next),
+            None if is_wanted && is_away => self.rest.notify_one(),
+            _ => {}
+        }
+    }
+
+    /// Wakes a free post of the worker at this place.
+    fn ring(&self, at: usize) {
+        if let Some(bell) = self.bells.get(at) {
+            bell.notify_one();
         }
     }
 
@@ -220,8 +201,11 @@ struct Handed<L> {
 /// are counted, and one for each link that was handed over to it.
 #[derive(Drop)]
 struct State<L> {
+    serving: Serving,
     is_led: bool,
     has_ended: bool,
+    /// The next session's number. It begins anew behind 2^64 - 1.
+    next: u64,
     /// The number of the session that is waited for.
     number: Option<u64>,
     /// How many sessions are served.
@@ -232,20 +216,6 @@ struct State<L> {
 }
 
 impl<L: Drop> State<L> {
-    fn new(alloc: Global) -> State<L> {
-        State {
-            is_led: false,
-            has_ended: false,
-            number: None,
-            served: 0,
-            loads: [Load {
-                free: 0,
-                sessions: 0,
-            }; MAX_WORKERS as usize],
-            handed: Vec::new(alloc),
-        }
-    }
-
     /// A post comes, and is free where it doesn't rest.
     fn come(&mut self, at: usize, rests: bool) {
         if !rests && let Some(load) = self.loads.get_mut(at) {
@@ -261,16 +231,16 @@ impl<L: Drop> State<L> {
     }
 
     /// What a post is to do now, where there is anything.
-    fn turn(&mut self, daemon_state: &DaemonState, at: usize, rests: bool) -> Option<Turn<L>> {
+    fn turn(&mut self, at: usize, rests: bool) -> Option<Turn<L>> {
         if !rests && let Some(accepted) = self.take(at) {
             return Some(Turn::Serve(accepted));
         }
         if !self.has_ended {
-            if !self.is_wanted(daemon_state) || !may_serve(&self.loads, rests) {
+            if !self.is_wanted() || !may_serve(&self.loads, rests) {
                 return None;
             }
             if self.number.is_none() {
-                self.number = daemon_state.next_session();
+                self.number = self.next_session();
             }
             if let Some(session) = self.number {
                 self.is_led = true;
@@ -283,8 +253,18 @@ impl<L: Drop> State<L> {
     }
 
     /// Whether a leader is wanted.
-    fn is_wanted(&self, daemon_state: &DaemonState) -> bool {
-        !self.is_led && !self.has_ended && self.served < daemon_state.clients()
+    fn is_wanted(&self) -> bool {
+        !self.is_led && !self.has_ended && self.served < self.serving.clients.max(1)
+    }
+
+    /// The next session's number, counted from 0; none where all were taken.
+    fn next_session(&mut self) -> Option<u64> {
+        let session = self.next;
+        self.next = session.wrapping_add(1);
+        match self.serving.sessions {
+            Some(sessions) if session >= sessions => None,
+            _ => Some(session),
+        }
     }
 
     /// The oldest link that was handed over to the worker at this place.
@@ -306,7 +286,9 @@ impl<L: Drop> State<L> {
         accepted: Accepted<L>,
         rests: bool,
     ) -> Result<usize, Accepted<L>> {
-        match fewest(&self.loads, at) {
+        let other = fewest(&self.loads, at);
+        self.give_way(at, true, rests);
+        match other {
             Some(other) if (rests || other != at) && self.handed.len() < self.handed.capacity() => {
                 let Ok(()) = self.handed.push(Handed {
                     at: other,
@@ -317,12 +299,10 @@ impl<L: Drop> State<L> {
                 };
                 self.go(other, false);
                 self.begin(other);
-                self.give_way(at, true, rests);
                 Ok(other)
             }
             _ => {
                 self.begin(at);
-                self.give_way(at, true, rests);
                 Err(accepted)
             }
         }
@@ -355,7 +335,7 @@ impl<L: Drop> State<L> {
 
     /// Whether a leader is wanted, and the place of the worker whose free post is to be it, where
     /// there is one.
-    fn next_leader(&self, daemon_state: &DaemonState, at: usize) -> (bool, Option<usize>) {
-        (self.is_wanted(daemon_state), fewest(&self.loads, at))
+    fn next_leader(&self, at: usize) -> (bool, Option<usize>) {
+        (self.is_wanted(), fewest(&self.loads, at))
     }
 }

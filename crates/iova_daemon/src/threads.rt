@@ -10,7 +10,7 @@ use iova_range::refusal::Refusal;
 use iova_sink::sink::Sink;
 use std::snapshot::Snapshot;
 use std::sync::Wait;
-use std::thread::{Promise, PromisedHandle, Scope, Threads};
+use std::thread::{JoinHandle, Promise, PromisedHandle, Scope, Threads};
 use std::{io, thread};
 
 /// A worker's place.
@@ -85,17 +85,9 @@ impl<P: WorkerPlace, D: Sink> Promise<(P, D)> for KeepsBoth<P, D> {
         (D.calls p.sink.value) (D.calls r.1) };
 }
 
-/// The promise of a thread that gives nothing back.
-#[derive(Clone, Copy)]
-pub(crate) struct Nothing;
-
-impl Promise<()> for Nothing {
-    ghost kept_by = { λ p r. Unit {0} };
-}
-
 /// Starts a worker at each place, with its sink, goes on beside them, and joins them. It gives the
-/// places and the sinks back in their order. Refused by `NoMemory` before one is started, and by
-/// `LinkFault` where one can't be.
+/// places and the sinks back in their order, and what was done beside them. Refused by `NoMemory`
+/// before one is started, and by `LinkFault` where one can't be.
 pub(crate) fn run_all<R, W, P, D, B>(
     rt: &R,
     context: &W,
@@ -127,83 +119,59 @@ where
             ensures beside { IfOk result (λ j. KeepsTally (B.tally beside) (B.tally j.beside)
                 (B.calls beside) (B.calls j.beside)) }
             ensures refusal { IfErr result IsServeRefusal }
-        { run_in(scope, rt, context, places, sinks, beside) },
+        {
+            let mut beside = beside;
+            let workers = places.len();
+            let alloc = *places.allocator();
+            // so joining needs no memory
+            let Ok(mut back) = Vec::with_capacity(alloc, workers) else {
+                return Err(Refusal::NoMemory);
+            };
+            let Ok(mut given) = Vec::with_capacity(alloc, workers) else {
+                return Err(Refusal::NoMemory);
+            };
+            let Ok(mut started) = Vec::with_capacity(alloc, workers) else {
+                return Err(Refusal::NoMemory);
+            };
+            if !context.take_room(workers) {
+                return Err(Refusal::NoMemory);
+            }
+            // started workers wait for the gate until all are started
+            let mut gate = context.daemon_state().gate.lock(rt);
+            let all = start_all(scope, context, places, sinks, &mut started);
+            let control_task = if all {
+                start_control_task::<_, W, P, D>(scope, context)
+            } else {
+                None
+            };
+            let all = control_task.is_some();
+            *gate = all;
+            drop(gate);
+            if all {
+                beside.go_on();
+            }
+            join_all(rt, started, &mut back, &mut given);
+            if let Some(Some(control_task)) = control_task {
+                control_task.join(rt);
+            }
+            if all {
+                Ok(Joined {
+                    places: back,
+                    sinks: given,
+                    beside,
+                })
+            } else {
+                Err(Refusal::LinkFault)
+            }
+        },
     )
-}
-
-/// What `run_all` does, in a scope that its threads end in.
-fn run_in<'s, E, R, W, P, D, B>(
-    scope: &Scope<'s, E>,
-    rt: &R,
-    context: &'s W,
-    places: Vec<P>,
-    sinks: Vec<D>,
-    beside: B,
-) -> Result<Joined<P, D, B>, Refusal>
-where
-    E: 's,
-    R: Threads + Wait,
-    W: Work<P, D> + Sync + 's,
-    P: WorkerPlace + Send + Drop + 's,
-    D: Sink + Send + Drop + 's,
-    B: SideTask + Drop,
-    requires { vec_len places ≡ vec_len sinks }
-    ensures kept { IfOk result (λ j. AreKept (map P.seat places.items) (map D.calls sinks.items)
-        (map P.seat j.places.items) (map D.calls j.sinks.items)) }
-    ensures beside { IfOk result (λ j. KeepsTally (B.tally beside) (B.tally j.beside)
-        (B.calls beside) (B.calls j.beside)) }
-    ensures refusal { IfErr result IsServeRefusal }
-{
-    let mut beside = beside;
-    let workers = places.len();
-    let alloc = *places.allocator();
-    // so joining needs no memory
-    let Ok(mut back) = Vec::with_capacity(alloc, workers) else {
-        return Err(Refusal::NoMemory);
-    };
-    let Ok(mut given) = Vec::with_capacity(alloc, workers) else {
-        return Err(Refusal::NoMemory);
-    };
-    let Ok(mut started) = Vec::with_capacity(alloc, workers) else {
-        return Err(Refusal::NoMemory);
-    };
-    if !context.take_room(workers) {
-        return Err(Refusal::NoMemory);
-    }
-    // started workers wait for the gate until all are started
-    let mut gate = context.daemon_state().gate.lock(rt);
-    let all = start_all::<E, W, P, D>(scope, context, places, sinks, &mut started);
-    let control_task = if all {
-        start_control_task::<E, W, P, D>(scope, context)
-    } else {
-        None
-    };
-    let all = control_task.is_some();
-    *gate = all;
-    drop(gate);
-    if all {
-        beside.go_on();
-    }
-    join_all(rt, started, &mut back, &mut given);
-    if let Some(Some(control_task)) = control_task {
-        control_task.join(rt);
-    }
-    if all {
-        Ok(Joined {
-            places: back,
-            sinks: given,
-            beside,
-        })
-    } else {
-        Err(Refusal::LinkFault)
-    }
 }
 
 /// Starts what is done aside, where there is anything to do. None where it can't be started.
 fn start_control_task<'s, E, W, P, D>(
     scope: &Scope<'s, E>,
     context: &'s W,
-) -> Option<Option<PromisedHandle<(), Nothing>>>
+) -> Option<Option<JoinHandle<()>>>
 where
     E: 's,
     W: Work<P, D> + Sync + 's,
@@ -213,7 +181,7 @@ where
     if !context.is_control_wanted() {
         return Some(None);
     }
-    match scope.spawn_with(Nothing, move || context.run_control_task()) {
+    match scope.spawn(move || context.run_control_task()) {
         Ok(handle) => Some(Some(handle)),
         Err(error) => {
             context.cannot_start_control_task(&io::Error::from(error));

@@ -95,7 +95,15 @@ where
     }
 
     fn run_control_task(&self) {
-        run_control_task(self.rt, self.daemon_state, self.accept, &self.keeper);
+        let (rt, daemon_state) = (self.rt, self.daemon_state);
+        for _ in rt.forever() {
+            if daemon_state.have_ended() {
+                return;
+            }
+            self.accept
+                .turn(&self.keeper, &LiveMetrics { rt, daemon_state });
+        }
+        unreachable!()
     }
 
     fn cannot_start_control_task(&self, error: &io::Error) {
@@ -106,8 +114,8 @@ where
 /// Serves sessions at the post until none is to come. Its waiting clients are tried again before
 /// each wait in the pool, where it waits for a second at most while there are any: so a post that
 /// rests tries them about once a second, and before it takes a session.
-fn serve_on_thread<R, N, B, K, L, A, D>(
-    context: &WorkerContext<&R, &N, K, &A, &DaemonState, &Pool<L>>,
+fn serve_on_thread<'e, R, N, B, K, L, A, D>(
+    context: &WorkerContext<&'e R, &'e N, K, &'e A, &'e DaemonState, &'e Pool<L>>,
     keeper: &mut K,
     post: &mut Post<B>,
     sink: &mut NotingSink<'_, D, N>,
@@ -129,96 +137,129 @@ where
     ensures place { KeepsPlace post.old.seat post.new.seat (D.calls sink.old.sink)
         (D.calls sink.new.sink) }
 {
-    let (rt, daemon_state) = (context.rt, context.daemon_state);
+    let daemon_state = context.daemon_state;
     let thread = daemon_state.begin();
-    let mut told = 0;
-    'turns: for _ in rt.forever() {
+    let mut noted = 0;
+    'turns: for _ in context.rt.forever() {
         try_again(daemon_state, keeper, post, sink);
-        told = tell(rt, daemon_state, thread, told, &post.waiting);
-        let worker = post.seat.worker();
-        match next::<R, L, A>(
-            rt,
-            daemon_state,
-            context.pool,
-            context.accept,
-            worker,
-            told > 0,
-        ) {
-            Turn::Serve(accepted) => told = serve_accepted(
-                context, keeper, post, sink, accepted, thread, told,
-            ),
+        noted = context.note_waiting(thread, noted, &post.waiting);
+        match context.next(post.seat.worker(), noted > 0) {
+            Turn::Serve(accepted) => {
+                noted = context.serve_accepted(keeper, post, sink, accepted, thread, noted);
+            }
             Turn::End => return,
             Turn::Lead(_) | Turn::Again => {}
         }
     }
 }
 
-/// Serves a session at the post over the link, from its first byte to the end of its client. The
-/// session thread has told of so many waiting clients; gives of how many it has told then.
-fn serve_accepted<R, N, B, K, L, A, D>(
-    context: &WorkerContext<&R, &N, K, &A, &DaemonState, &Pool<L>>,
-    keeper: &mut K,
-    post: &mut Post<B>,
-    sink: &mut NotingSink<'_, D, N>,
-    accepted: Accepted<L>,
-    thread: u64,
-    told: u64,
-) -> u64
+impl<'e, R, N, K, L, A> WorkerContext<&'e R, &'e N, K, &'e A, &'e DaemonState, &'e Pool<L>>
 where
     R: Wait + Clock,
     N: Log,
-    B: Names,
-    K: Keep<B>,
     L: Link + Drop,
     A: Accept<L>,
-    D: Sink,
-    ensures same { K.identity keeper.new ≡ K.identity keeper.old }
-    ensures session { ServesSession L.left L.sent L.reads context.now.daemon_state.now.serving.limits
-        (K.identity keeper.old).strict (K.identity keeper.old).number accepted.link
-        (between post.old.seat post.old.waiting.items (D.calls sink.old.sink)
-        (K.domain keeper.old))
-        (between post.new.seat post.new.waiting.items (D.calls sink.new.sink)
-        (K.domain keeper.new)) }
-    ensures place { KeepsPlace post.old.seat post.new.seat (D.calls sink.old.sink)
-        (D.calls sink.new.sink) }
 {
-    let Accepted { mut link, session } = accepted;
-    let (rt, daemon_state) = (context.rt, context.daemon_state);
-    let worker = post.seat.worker();
-    if daemon_state.begin_session(worker) {
-        note_full(context.notices, daemon_state.clients());
-    }
-    sink.begin_session();
-    let (alloc, limits) = (context.alloc, daemon_state.limits());
-    let ended = run_session_within(alloc, limits, &mut link, keeper, post, sink);
-    // so there are never more connections than sessions
-    drop(link);
-    let told = tell(rt, daemon_state, thread, told, &post.waiting);
-    daemon_state.end_session(worker);
-    context.pool.leave(rt, daemon_state, worker, told > 0);
-    note_end(context.notices, session, ended.end, sink.ranges_gone());
-    told
-}
-
-/// Does what there is to do aside, until all workers have ended.
-pub(crate) fn run_control_task<R: Wait + Clock, X: ControlTask, K: Look>(
-    rt: &R,
-    daemon_state: &DaemonState,
-    control_task: &X,
-    keeper: &K,
-) {
-    for _ in rt.forever() {
-        if daemon_state.have_ended() {
-            return;
+    /// Serves a session at the post over the link, from its first byte to the end of its client.
+    /// Of the session thread so many waiting clients are noted; gives how many are noted then.
+    fn serve_accepted<B: Names, D: Sink>(
+        &self,
+        keeper: &mut K,
+        post: &mut Post<B>,
+        sink: &mut NotingSink<'_, D, N>,
+        accepted: Accepted<L>,
+        thread: u64,
+        noted: u64,
+    ) -> u64
+    where
+        K: Keep<B>,
+        ensures same { K.identity keeper.new ≡ K.identity keeper.old }
+        ensures session { ServesSession L.left L.sent L.reads
+            self.now.daemon_state.now.serving.limits
+            (K.identity keeper.old).strict (K.identity keeper.old).number accepted.link
+            (between post.old.seat post.old.waiting.items (D.calls sink.old.sink)
+            (K.domain keeper.old))
+            (between post.new.seat post.new.waiting.items (D.calls sink.new.sink)
+            (K.domain keeper.new)) }
+        ensures place { KeepsPlace post.old.seat post.new.seat (D.calls sink.old.sink)
+            (D.calls sink.new.sink) }
+    {
+        let Accepted { mut link, session } = accepted;
+        let (rt, daemon_state) = (self.rt, self.daemon_state);
+        let worker = post.seat.worker();
+        if daemon_state.begin_session(worker) {
+            note_full(self.notices, daemon_state.clients());
         }
-        let source = LiveMetrics { rt, daemon_state };
-        control_task.turn(keeper, &source);
+        sink.begin_session();
+        let (alloc, limits) = (self.alloc, daemon_state.limits());
+        let ended = run_session_within(alloc, limits, &mut link, keeper, post, sink);
+        // so there are never more connections than sessions
+        drop(link);
+        let noted = self.note_waiting(thread, noted, &post.waiting);
+        daemon_state.end_session(worker);
+        self.pool.leave(rt, worker, noted > 0);
+        note_end(self.notices, session, ended.end, sink.ranges_gone());
+        noted
     }
-    unreachable!()
+
+    /// Notes which clients of a session's thread wait, where their number isn't the one that is
+    /// noted. Gives the number. A session adds one client and a round of tries takes some out, so
+    /// other clients are another number.
+    fn note_waiting(&self, thread: u64, noted: u64, waiting: &[ClientId]) -> u64 {
+        let left = waiting.len() as u64;
+        if left != noted {
+            self.daemon_state.wait_for(self.rt, thread, noted, waiting);
+        }
+        left
+    }
+
+    /// What a post of this worker, which may rest, does next: it waits in the pool, and accepts a
+    /// link where it is to lead. Where no link is to come, the pool ends.
+    fn next(&self, worker: u64, rests: bool) -> Turn<L> {
+        if self.accept.has_ended() {
+            self.accept.close();
+            self.pool.end(self.rt);
+            return Turn::End;
+        }
+        match self.pool.wait(self.rt, worker, rests) {
+            Turn::Lead(session) => match self.lead(worker, session, rests) {
+                Some(accepted) => Turn::Serve(accepted),
+                None => Turn::Again,
+            },
+            turn => turn,
+        }
+    }
+
+    /// Accepts a link for the session of this number, where the post rests within a second, and
+    /// gives it where the post is to serve it: else it hands it over or, where it got none, gives
+    /// way.
+    fn lead(&self, worker: u64, session: u64, rests: bool) -> Option<Accepted<L>> {
+        let limit = if rests { Some(RETRY_PAUSE) } else { None };
+        let accepted = if self.accept.has_ended() {
+            Ok(None)
+        } else {
+            self.accept.accept(limit)
+        };
+        // an accept that fails uses up the number; after the last one nobody is accepted any more
+        let is_used_up = !matches!(accepted, Ok(None));
+        if is_used_up && self.daemon_state.meet() {
+            self.accept.close();
+        }
+        match accepted {
+            Ok(Some(link)) => {
+                self.pool
+                    .assign(self.rt, worker, Accepted { link, session }, rests)
+            }
+            _ => {
+                self.pool.give_way(self.rt, worker, is_used_up, rests);
+                None
+            }
+        }
+    }
 }
 
 /// Tries the post's waiting clients again, unless another session thread of its worker does so.
-pub(crate) fn try_again<B: Names, K: Keep<B>, D: Sink>(
+fn try_again<B: Names, K: Keep<B>, D: Sink>(
     daemon_state: &DaemonState,
     keeper: &mut K,
     post: &mut Post<B>,
@@ -234,87 +275,5 @@ pub(crate) fn try_again<B: Names, K: Keep<B>, D: Sink>(
     if !post.waiting.is_empty() && daemon_state.begin_trying(worker) {
         retry(keeper, post, sink);
         daemon_state.end_trying(worker);
-    }
-}
-
-/// Reports which clients of a session's thread wait, where their number has changed since the last
-/// report. Gives the number. A session adds one client and a round of tries takes some out, so
-/// other clients are another number.
-pub(crate) fn tell<R: Wait>(
-    rt: &R,
-    daemon_state: &DaemonState,
-    thread: u64,
-    told: u64,
-    waiting: &[ClientId],
-) -> u64 {
-    let left = waiting.len() as u64;
-    if left != told {
-        daemon_state.wait_for(rt, thread, told, waiting);
-    }
-    left
-}
-
-/// What a post of this worker, which may rest, does next: it waits in the pool, and accepts a link
-/// where it is to lead. Where no link is to come, the pool ends.
-fn next<R: Wait + Clock, L: Drop, A: Accept<L>>(
-    rt: &R,
-    daemon_state: &DaemonState,
-    pool: &Pool<L>,
-    accept: &A,
-    worker: u64,
-    rests: bool,
-) -> Turn<L> {
-    if accept.has_ended() {
-        accept.close();
-        pool.end(rt);
-        return Turn::End;
-    }
-    match pool.wait(rt, daemon_state, worker, rests) {
-        Turn::Lead(session) => lead(rt, daemon_state, pool, accept, worker, session, rests),
-        turn => turn,
-    }
-}
-
-/// Accepts a link for the session of this number, where the post rests within a second, and serves
-/// it, hands it over or, where it got none, gives way.
-fn lead<R: Wait, L: Drop, A: Accept<L>>(
-    rt: &R,
-    daemon_state: &DaemonState,
-    pool: &Pool<L>,
-    accept: &A,
-    worker: u64,
-    session: u64,
-    rests: bool,
-) -> Turn<L> {
-    if accept.has_ended() {
-        pool.give_way(rt, daemon_state, worker, false, rests);
-        return Turn::Again;
-    }
-    let limit = if rests { Some(RETRY_PAUSE) } else { None };
-    match accept.accept(limit) {
-        Ok(Some(link)) => {
-            meet::<L, A>(daemon_state, accept);
-            match pool.assign(rt, daemon_state, worker, Accepted { link, session }, rests) {
-                Some(accepted) => Turn::Serve(accepted),
-                None => Turn::Again,
-            }
-        }
-        Ok(None) => {
-            pool.give_way(rt, daemon_state, worker, false, rests);
-            Turn::Again
-        }
-        // an accept that fails uses up the number
-        Err(_) => {
-            meet::<L, A>(daemon_state, accept);
-            pool.give_way(rt, daemon_state, worker, true, rests);
-            Turn::Again
-        }
-    }
-}
-
-/// Counts a session that was accepted. After the last one nobody is accepted any more.
-fn meet<L, A: Accept<L>>(daemon_state: &DaemonState, accept: &A) {
-    if daemon_state.meet() {
-        accept.close();
     }
 }

@@ -11,7 +11,7 @@ pub turns-preserved-in-Serve : goal.turns-preserved-in-Serve
 turns-preserved-in-Serve g c =
     let was = c.turns.invariant in
     let tried = c.try_again.ensures in
-    let served = c.serve_accepted-told.ensures in
+    let served = c.serve_accepted-noted.ensures in
     record {
       place = keeps_more _ _ _ _ _ _ was.place (keeps_more _ _ _ _ _ _ tried.place served.place);
       same = served.same ∙ tried.same ∙ was.same;
