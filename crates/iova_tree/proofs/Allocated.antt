@@ -8,11 +8,11 @@ use Rattle.std.proofs.lemmas.List.Folds.{list_any-append}
 use Rattle.iova_range.specs.Frames.{Frames, covers, meets}
 use Rattle.iova_model.specs.Fit.{is_covered, is_clear}
 use Rattle.iova_model.specs.Clients.{insert_rising, remove_at, begins_at}
-use Rattle.iova_tree.specs.Spans.{Span, range_of_span, all_of, is_kind, of_kind, windows_of, inserted_of, end_after, first_lo, IsRisingFrom, with_span, Holds}
+use Rattle.iova_tree.specs.Spans.{Span, range_of_span, all_of, is_kind, of_kind, windows_of, inserted_of, end_after, first_lo, IsRisingFrom, IsBefore, with_span, Holds}
 use Rattle.iova_range.specs.Bounds.{Extent}
 use Rattle.iova_tree.specs.Space.{IsSpace, IsTreeKept, space_of, RiseApart, LieWithin}
 use Rattle.iova_tree.proofs.Apart.{rise_lower}
-use Rattle.iova_tree.proofs.Spans.{rising_with, node-gaps, node-middle, first_below_end, rising-weaken, rising-end, rising-front, rising-back}
+use Rattle.iova_tree.proofs.Spans.{rising_with, rising-weaken, rising-end}
 
 len_end : (x : Span) → x.lo < x.end → x.lo + (x.end - x.lo) ≡ x.end
 len_end x lt = omega arith
@@ -42,46 +42,22 @@ covered_below e frame [] r lt = refl
 covered_below e frame (x ∷ l) r lt =
     rw (covers_apart frame x r.1 (inl (omega (arith, r.0)))) (covered_below x.end frame l r.2 (omega (arith, r.0, r.1)))
 
-covered_above : (e frame : ℕ) (l : List Span) → IsRisingFrom e l → end_after e l ≤ frame → is_covered frame (all_of l) ≡ false
+pub covered_above : (e frame : ℕ) (l : List Span) → IsRisingFrom e l → end_after e l ≤ frame → is_covered frame (all_of l) ≡ false
 covered_above e frame [] r le = refl
 covered_above e frame (x ∷ l) r le =
     let end = rising-end x.end l r.2 in
     rw (covers_apart frame x r.1 (inr (omega arith))) (covered_above x.end frame l r.2 le)
 
-or_none : (a : Bool) → (a || false) ≡ a
+pub or_none : (a : Bool) → (a || false) ≡ a
 or_none true = refl
 or_none false = refl
 
-covered_append : (frame : ℕ) (l r : List Span) → is_covered frame (all_of (l ++ r)) ≡ (is_covered frame (all_of l) || is_covered frame (all_of r))
+pub covered_append : (frame : ℕ) (l r : List Span) → is_covered frame (all_of (l ++ r)) ≡ (is_covered frame (all_of l) || is_covered frame (all_of r))
 covered_append frame l r = ap (list_any (covers frame)) (all_of-append l r) ∙ list_any-append (covers frame) (all_of l) (all_of r)
 
-covered_none : (frame : ℕ) (l : List Span) → 0 < length l → IsRisingFrom 0 l → frame < first_lo l → is_covered frame (all_of l) ≡ false
-covered_none frame [] some r lt = absurd (omega arith)
-covered_none frame (x ∷ l) some r lt = covered_below x.lo frame (x ∷ l) (omega arith, r.1, r.2) lt
-
--- The ranges of a node: those of the lower side, of its own block, which isn't empty, and of the upper side.
-
-pub covered_left : (frame : ℕ) (l k r : List Span) → 0 < length k → IsRisingFrom 0 (l ++ (k ++ r)) → frame < first_lo k → is_covered frame (all_of (l ++ (k ++ r))) ≡ is_covered frame (all_of l)
-covered_left frame l [] r some s lt = absurd (omega arith)
-covered_left frame l (x ∷ k) r some s lt =
-    let back = rising-back 0 l (x ∷ (k ++ r)) s in
-    rw (covered_append frame l (x ∷ (k ++ r)), covered_below x.lo frame (x ∷ (k ++ r)) (omega arith, back.1, back.2) lt) (or_none _)
-
-pub covered_own : (frame : ℕ) (l k r : List Span) → 0 < length k → IsRisingFrom 0 (l ++ (k ++ r)) → first_lo k ≤ frame → frame < end_after 0 k → is_covered frame (all_of (l ++ (k ++ r))) ≡ is_covered frame (all_of k)
-covered_own frame l k r some s le lt =
-    let g = node-gaps l k r some s in
-    let low = covered_above 0 frame l (rising-front 0 l (k ++ r) s) (omega (arith, g.0)) in
-    let high = covered_below (end_after 0 k) frame r g.1 lt in
-    rw (covered_append frame l (k ++ r), low, covered_append frame k r, high) (or_none _)
-
-pub covered_right : (frame : ℕ) (l k r : List Span) → 0 < length k → IsRisingFrom 0 (l ++ (k ++ r)) → end_after 0 k ≤ frame → is_covered frame (all_of (l ++ (k ++ r))) ≡ is_covered frame (all_of r)
-covered_right frame l k r some s le =
-    let g = node-gaps l k r some s in
-    let m = node-middle l k r s in
-    let e = first_below_end 0 k some m in
-    let low = covered_above 0 frame l (rising-front 0 l (k ++ r) s) (omega (arith, g.0)) in
-    let own = covered_above 0 frame k m le in
-    rw (covered_append frame l (k ++ r), low, covered_append frame k r, own) refl
+pub covered_before : (frame e : ℕ) (l : List Span) → IsRisingFrom e l → IsBefore (record { lo = frame; end = frame; window = false }) l → is_covered frame (all_of l) ≡ false
+covered_before frame e [] r lt = refl
+covered_before frame e (x ∷ l) r lt = covered_below x.lo frame (x ∷ l) (omega arith, r.1, r.2) lt
 
 or_swap : (a b c : Bool) → (b || (a || c)) ≡ (a || (b || c))
 or_swap true true c = refl
@@ -126,12 +102,6 @@ pub none_meets_above : (kind : Bool) (a : Frames) (l : List Span) → IsRisingFr
 none_meets_above kind a [] r le = refl
 none_meets_above kind a (x ∷ l) r le =
     any_step (is_kind kind x) (meets a) (range_of_span x) (of_kind kind l) (meets_beside a x r.1 (inr le)) (none_meets_from kind x.end a l r.2 (omega (arith, r.1)))
-
-pub meets_node : (kind : Bool) (a : Frames) (l k r : List Span)
-    → list_any (meets a) (of_kind kind (l ++ (k ++ r))) ≡ (list_any (meets a) (of_kind kind l) || (list_any (meets a) (of_kind kind k) || list_any (meets a) (of_kind kind r)))
-meets_node kind a l k r =
-    ap (list_any (meets a)) (of_kind-append kind l (k ++ r)) ∙ list_any-append (meets a) (of_kind kind l) (of_kind kind (k ++ r))
-    ∙ ap (λ z. list_any (meets a) (of_kind kind l) || z) (ap (list_any (meets a)) (of_kind-append kind k r) ∙ list_any-append (meets a) (of_kind kind k) (of_kind kind r))
 
 -- One more.
 

@@ -1,5 +1,5 @@
 -- The ranges of a block, read from one end to the other.
-use Rattle.std.proofs.Common.{ℕ, zero, suc, ◌≡◌, ◌+◌, ◌-◌, ◌<◌, ◌≤◌, ◌⊎◌, inl, inr, max, min, ◌&&◌, ◌||◌, Bool, true, false, not, cond, List, [], ◌∷◌, ◌++◌, length, take, drop, slice_index_or, refl, sym, ap, ◌∙◌, arith, take-append-drop, length-drop}
+use Rattle.std.proofs.Common.{ℕ, zero, suc, ◌≡◌, ◌+◌, ◌-◌, ◌<◌, ◌≤◌, ◌⊎◌, inl, inr, max, min, ◌&&◌, ◌||◌, Bool, true, false, not, cond, List, [], ◌∷◌, ◌++◌, length, take, drop, slice_index_or, slice_set, refl, sym, ap, ◌∙◌, arith, take-append-drop, length-drop}
 use Rattle.std.specs.Prelude.{nat_lt, nat_le, nat_eq, insert, remove}
 use Rattle.std.specs.List.Sorted.{IsNonDecreasingBy}
 use Rattle.std.proofs.Math.Seq.{take-suc, drop-cons}
@@ -13,10 +13,10 @@ use Rattle.iova_range.specs.Frames.{Frames, covers, meets}
 use Rattle.iova_model.specs.Fit.{is_covered}
 use Rattle.std.specs.List.{list_any}
 use Rattle.iova_tree.specs.declared.search.Wanted.{Wanted}
-use Rattle.iova_tree.specs.Fit.{higher, place, place_behind, highest_between}
+use Rattle.iova_tree.specs.Fit.{higher, place, highest_after}
 use Rattle.iova_tree.proofs.Rooms.{room_mono, room-below}
-use Rattle.iova_tree.proofs.Spans.{end_after-middle, room_between-middle, with_span-before, with_span-behind, rising-front, rising-after, rising-without, with_span-front, with_span-later, rising_with, holds_above, rising-back}
-use Rattle.iova_tree.proofs.Fits.{highest_between-last}
+use Rattle.iova_tree.proofs.Spans.{end_after-middle, room_between-middle, with_span-before, with_span-behind, rising-front, rising-after, rising-without, with_span-front, with_span-later, rising_with, holds_above, rising-back, rising-end, room_after-append}
+use Rattle.iova_tree.proofs.Fits.{highest_after-append}
 
 end_after-at : (e : ℕ) (l : List Span) (d : Span) (k : ℕ) → length l ≡ suc k → end_after e l ≡ (slice_index_or l k d).end
 end_after-at e [] d k n = absurd (omega arith)
@@ -36,50 +36,49 @@ room_below-some : (lo : ℕ) (l : List Span) → 0 < length l → room_below lo 
 room_below-some lo [] some = absurd (omega arith)
 room_below-some lo (x ∷ l) some = refl
 
-place_behind-some : (w : Wanted) (l : List Span) (lo : ℕ) → 0 < length l → place_behind w l lo ≡ place (end_after 0 l) (min lo w.cap) w
-place_behind-some w [] lo some = absurd (omega arith)
-place_behind-some w (x ∷ l) lo some = refl
+-- one more range at the end
 
--- one more range at the end, which is not the first
-room_between-take : (k : ℕ) (l : List Span) (d : Span) → suc k < length l
-    → room_between (take (suc (suc k)) l) ≡ max (room_between (take (suc k) l)) (room (slice_index_or l k d).end (slice_index_or l (suc k) d).lo)
-room_between-take k l d lt =
-    let x = slice_index_or l (suc k) d in
-    let n : length (take (suc k) l) ≡ suc k = length-take-le (suc k) l (omega arith) in
-    let e = end_after-take 0 k l d (omega arith) in
-    let m = room_between-middle (take (suc k) l) x [] in
-    let b = room_below-some x.lo (take (suc k) l) (omega (arith, n)) in
-    rw (take-suc l (suc k) d lt, m, b, e) (omega arith)
+pub end_after-next : (e k : ℕ) (l : List Span) (x : Span) → k < length l → x ≡ slice_index_or l k x → end_after e (take (suc k) l) ≡ x.end
+end_after-next e k l x lt is = end_after-take e k l x lt ∙ ap (λ (y : Span). y.end) (sym is)
 
-highest_between-take : (w : Wanted) (k : ℕ) (l : List Span) (d : Span) → suc k < length l
-    → highest_between w (take (suc (suc k)) l) ≡ higher (place (slice_index_or l k d).end (min (slice_index_or l (suc k) d).lo w.cap) w) (highest_between w (take (suc k) l))
-highest_between-take w k l d lt =
-    let x = slice_index_or l (suc k) d in
-    let n : length (take (suc k) l) ≡ suc k = length-take-le (suc k) l (omega arith) in
-    let e = end_after-take 0 k l d (omega arith) in
-    let b = place_behind-some w (take (suc k) l) x.lo (omega (arith, n)) in
-    rw (take-suc l (suc k) d lt, highest_between-last w (take (suc k) l) x [], b, e) refl
+pub room_after-next : (e k : ℕ) (l : List Span) (x : Span) → k < length l → x ≡ slice_index_or l k x → room_after e (take (suc k) l) ≡ max (room_after e (take k l)) (room (end_after e (take k l)) x.lo)
+room_after-next e k l x lt is =
+    let a = room_after-append e (take k l) (x ∷ []) in
+    rw (take-suc l k x lt, ← is) (omega (arith, a))
+
+pub highest_after-next : (w : Wanted) (e k : ℕ) (l : List Span) (x : Span) → k < length l → x ≡ slice_index_or l k x
+    → highest_after w e (take (suc k) l) ≡ higher (place (end_after e (take k l)) (min x.lo w.cap) w) (highest_after w e (take k l))
+highest_after-next w e k l x lt is = rw (take-suc l k x lt, ← is) (highest_after-append w e (take k l) (x ∷ []))
 
 -- the ranges y and x stand at the places before `at`
-pub room_between-next : (at : ℕ) (l : List Span) (x y : Span) → 1 ≤ at → at < length l → x ≡ slice_index_or l at x → y ≡ slice_index_or l (at - 1) y
-    → room_between (take (at + 1) l) ≡ max (room_between (take at l)) (room y.end x.lo)
-room_between-next zero l x y some lt p q = absurd (omega arith)
-room_between-next (suc k) l x y some lt p q =
-    let i : suc k - 1 ≡ k = omega arith in
-    let j : suc k + 1 ≡ suc (suc k) = omega arith in
-    let y_is : slice_index_or l k x ≡ y = get_or_default l k x y (omega arith) ∙ sym (rw i at q) in
-    rw (j, room_between-take k l x lt, y_is, ← p) refl
-
-pub highest_between-next : (w : Wanted) (at : ℕ) (l : List Span) (x y : Span) → 1 < at → at ≤ length l → x ≡ slice_index_or l (at - 1) x → y ≡ slice_index_or l (at - 1 - 1) y
-    → highest_between w (take at l) ≡ higher (place y.end (min x.lo w.cap) w) (highest_between w (take (at - 1) l))
-highest_between-next w zero l x y some lt p q = absurd (omega arith)
-highest_between-next w (suc zero) l x y some lt p q = absurd (omega arith)
-highest_between-next w (suc (suc k)) l x y some lt p q =
+pub highest_after-step : (w : Wanted) (e at : ℕ) (l : List Span) (x y : Span) → 1 < at → at ≤ length l → x ≡ slice_index_or l (at - 1) x → y ≡ slice_index_or l (at - 1 - 1) y
+    → highest_after w e (take at l) ≡ higher (place y.end (min x.lo w.cap) w) (highest_after w e (take (at - 1) l))
+highest_after-step w e zero l x y some le p q = absurd (omega arith)
+highest_after-step w e (suc zero) l x y some le p q = absurd (omega arith)
+highest_after-step w e (suc (suc k)) l x y some le p q =
     let i : suc (suc k) - 1 ≡ suc k = omega arith in
     let j : suc k - 1 ≡ k = omega arith in
     let x_is : x ≡ slice_index_or l (suc k) x = rw i at p in
-    let y_is : slice_index_or l k x ≡ y = get_or_default l k x y (omega arith) ∙ sym (rw j at (rw i at q)) in
-    rw (i, highest_between-take w k l x (omega arith), y_is, ← x_is) refl
+    let y_is : y ≡ slice_index_or l k y = rw j at (rw i at q) in
+    let n = highest_after-next w e (suc k) l x (omega arith) x_is in
+    let m = end_after-next e k l y (omega arith) y_is in
+    rw (i, n, m) refl
+
+-- a front has no more room than the whole
+pub room_after-front : (e k : ℕ) (l : List Span) → room_after e (take k l) ≤ room_after e l
+room_after-front e k l =
+    let a = room_after-append e (take k l) (drop k l) in
+    let b = rw (take-append-drop k l) at a in
+    omega (arith, b)
+
+pub rising_next : (e k : ℕ) (l : List Span) (x : Span) → IsRisingFrom e l → k < length l → x ≡ slice_index_or l k x → end_after e (take k l) ≤ x.lo
+rising_next e zero [] x r lt is = absurd (omega arith)
+rising_next e (suc k) [] x r lt is = absurd (omega arith)
+rising_next e zero (y ∷ l) x r lt is = rw is r.0
+rising_next e (suc k) (y ∷ l) x r lt is = rising_next y.end k l x r.2 (omega arith) is
+
+pub end_rises : (e k : ℕ) (l : List Span) → 1 ≤ e → IsRisingFrom e l → 1 ≤ end_after e (take k l)
+end_rises e k l some r = let i = rising-end e (take k l) (rising-front e (take k l) (drop k l) (rw (sym (take-append-drop k l)) at r)) in omega arith
 
 -- each of them has a frame
 pub some_end : (e : ℕ) (l : List Span) (k : ℕ) (x : Span) → IsRisingFrom e l → k < length l → x ≡ slice_index_or l k x → 1 ≤ x.end
@@ -118,7 +117,7 @@ rising_front (x ∷ l) e some r = r.0
 
 -- Two parts that are not empty, and a range between them.
 
-room-joined : (f g : List Span) → 0 < length f → 0 < length g → room_between (f ++ g) ≡ max (room_between f) (max (room (end_after 0 f) (first_lo g)) (room_between g))
+pub room-joined : (f g : List Span) → 0 < length f → 0 < length g → room_between (f ++ g) ≡ max (room_between f) (max (room (end_after 0 f) (first_lo g)) (room_between g))
 room-joined [] g p q = absurd (omega arith)
 room-joined (x ∷ f) [] p q = absurd (omega arith)
 room-joined (x ∷ f) (k ∷ r) p q = let m = room_between-middle (x ∷ f) k r in rw m (omega arith)
@@ -346,7 +345,7 @@ removed_edge l at (inl first) = rw first (removed_first l)
 removed_edge l at (inr last) = removed_last l at last
 
 -- no room is above the greatest size of a request
-room_after-bounded : (e : ℕ) (l : List Span) → room_after e l ≤ 1048576
+pub room_after-bounded : (e : ℕ) (l : List Span) → room_after e l ≤ 1048576
 room_after-bounded e [] = omega arith
 room_after-bounded e (x ∷ l) = omega (arith, room-below e x.lo, room_after-bounded x.end l)
 
@@ -386,24 +385,3 @@ taken_any e lo end (x ∷ l) lt r =
         let a : lo + (end - lo) ≡ end = omega arith in
         let b : from + (until - from) ≡ until = omega arith in
         rw (a, b) (and_swap (nat_lt from end) (nat_lt lo until))
-
--- What comes into one of two parts.
-
-pub record IsInPart (x : Span) (l low high : List Span) : Type 0 where
-  pub free : IsRisingFrom 0 low × IsRisingFrom 0 high
-  pub is : with_span x l ≡ low ++ high
-
-pub cut_low : (x : Span) (l low high : List Span) → l ≡ low ++ high → 0 < length high → x.lo < first_lo high → IsRisingFrom 0 (with_span x l) → IsInPart x l (with_span x low) high
-cut_low x l low [] parts some lt r = absurd (omega arith)
-cut_low x l low (y ∷ t) parts some lt r =
-    let e : with_span x l ≡ with_span x low ++ y ∷ t = rw parts (with_span-before x low (y ∷ t) lt) in
-    let s = rw e at r in
-    record { free = (rising-front 0 (with_span x low) (y ∷ t) s, rising-after 0 (with_span x low) (y ∷ t) s); is = e }
-
-pub cut_high : (x : Span) (l low high : List Span) → l ≡ low ++ high → 0 < length high → first_lo high ≤ x.lo → IsRisingFrom 0 (with_span x l) → IsInPart x l low (with_span x high)
-cut_high x l low high parts some le r =
-    let rising : IsRisingFrom 0 (low ++ high) = rw (← parts) (rising-without 0 x l r) in
-    let front = rising-front 0 low high rising in
-    let g = rising_front high (end_after 0 low) some (rising-back 0 low high rising) in
-    let e : with_span x l ≡ low ++ with_span x high = rw parts (with_span-behind 0 x low high front (omega arith)) in
-    record { free = (front, rising-after 0 low (with_span x high) (rw e at r)); is = e }

@@ -38,7 +38,7 @@ pub highest_between-last : (w : Wanted) (l : List Span) (k : Span) (r : List Spa
 highest_between-last w [] k r = sym (higher-none _)
 highest_between-last w (x ∷ l) k r = highest_after-middle w x.end l k r
 
-highest_after-append : (w : Wanted) (e : ℕ) (l r : List Span) → highest_after w e (l ++ r) ≡ higher (highest_after w (end_after e l) r) (highest_after w e l)
+pub highest_after-append : (w : Wanted) (e : ℕ) (l r : List Span) → highest_after w e (l ++ r) ≡ higher (highest_after w (end_after e l) r) (highest_after w e l)
 highest_after-append w e [] r = sym (higher-none _)
 highest_after-append w e (x ∷ l) r = rw (highest_after-append w x.end l r, higher_assoc (highest_after w (end_after x.end l) r) (highest_after w x.end l) (place e (min x.lo w.cap) w)) refl
 
@@ -174,7 +174,7 @@ no_place w from until (Some s) z g h =
     absurd (omega arith)
 
 -- where no gap has the room, the search finds nothing
-highest_after-no_room : (w : Wanted) (e : ℕ) (l : List Span) → IsWanted w → room_after e l < w.size → highest_after w e l ≡ None
+pub highest_after-no_room : (w : Wanted) (e : ℕ) (l : List Span) → IsWanted w → room_after e l < w.size → highest_after w e l ≡ None
 highest_after-no_room w e [] z h = refl
 highest_after-no_room w e (x ∷ l) z h =
     rw (highest_after-no_room w x.end l z (omega arith), no_place w e x.lo _ z (place_greatest w e (min x.lo w.cap) (wanted_align w z)) (omega arith)) refl
@@ -183,11 +183,11 @@ pub highest_between-no_room : (w : Wanted) (l : List Span) → IsWanted w → ro
 highest_between-no_room w [] z h = refl
 highest_between-no_room w (x ∷ l) z h = highest_after-no_room w x.end l z h
 
-no_place_low : (w : Wanted) (from until : ℕ) (o : Option ℕ) → IsGreatestPlace w from until o → 0 < w.size → until ≤ from → o ≡ None
+pub no_place_low : (w : Wanted) (from until : ℕ) (o : Option ℕ) → IsGreatestPlace w from until o → 0 < w.size → until ≤ from → o ≡ None
 no_place_low w from until None g z h = refl
 no_place_low w from until (Some s) g z h = let g0 = g.0 in absurd (omega (arith, g0.above, g0.below))
 
-highest_after-above_cap : (w : Wanted) (e : ℕ) (l : List Span) → IsWanted w → IsRisingFrom e l → w.cap ≤ e → highest_after w e l ≡ None
+pub highest_after-above_cap : (w : Wanted) (e : ℕ) (l : List Span) → IsWanted w → IsRisingFrom e l → w.cap ≤ e → highest_after w e l ≡ None
 highest_after-above_cap w e [] z r h = refl
 highest_after-above_cap w e (x ∷ l) z r h =
     rw (highest_after-above_cap w x.end l z r.2 (omega (arith, r.0, r.1)), no_place_low w e (min x.lo w.cap) _ (place_greatest w e (min x.lo w.cap) (wanted_align w z)) z.some (omega arith)) refl

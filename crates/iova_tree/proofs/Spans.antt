@@ -4,7 +4,7 @@ use Rattle.std.specs.Prelude.{nat_lt, nat_eq}
 use Rattle.std.proofs.lemmas.Bool.Decides.{nat_tests}
 use Rattle.std.proofs.lemmas.Bool.{lt-ltb, le-ltb, ltb-true, ltb-false}
 use Rattle.iova_tree.specs.Room.{room}
-use Rattle.iova_tree.specs.Spans.{Span, end_after, first_lo, first_or, IsRisingFrom, room_after, room_between, room_below, with_span, without_span, with_replaced, Holds, IsBefore, KeepsEdges}
+use Rattle.iova_tree.specs.Spans.{Span, end_after, first_lo, first_or, IsRisingFrom, room_after, room_between, room_below, with_span, without_span, with_replaced, Holds, IsBefore}
 
 pub end_after-append : (e : ℕ) (l r : List Span) → end_after e (l ++ r) ≡ end_after (end_after e l) r
 end_after-append e [] r = refl
@@ -144,7 +144,7 @@ before_all e x (y ∷ l) lt r = omega (arith, r.0)
 
 -- The ranges of a node: those of the lower side, of its own block, which isn't empty, and of the upper side.
 
-room_after-append : (e : ℕ) (l r : List Span) → room_after e (l ++ r) ≡ max (room_after e l) (room_after (end_after e l) r)
+pub room_after-append : (e : ℕ) (l r : List Span) → room_after e (l ++ r) ≡ max (room_after e l) (room_after (end_after e l) r)
 room_after-append e [] r = omega arith
 room_after-append e (x ∷ l) r = let i = room_after-append x.end l r in omega arith
 
@@ -289,30 +289,3 @@ replaced-with e d x y (z ∷ t) r s low high = split (ltb x.lo z.lo) refl r (λ 
         let w = rising_with z.end x t r.2 in
         rw (test_other z.lo x.lo (omega (arith, r.1, w.0)))
         (later le r.2 (ltb y.lo z.lo) refl s (λ q. i r.2 q))
-
--- Where ranges begin and end.
-
-pub first_or-own : (l : List Span) → first_or 0 l ≡ first_lo l
-first_or-own [] = refl
-first_or-own (x ∷ l) = refl
-
-first_or-append : (lo : ℕ) (l r : List Span) → first_or lo (l ++ r) ≡ first_or (first_or lo r) l
-first_or-append lo [] r = refl
-first_or-append lo (x ∷ l) r = refl
-
-pub edges_front : (l m r : List Span) → KeepsEdges l m → KeepsEdges (l ++ r) (m ++ r)
-edges_front l m r k = record {
-  first = λ lo. rw (first_or-append lo l r, first_or-append lo m r) (k.first (first_or lo r));
-  end = λ e. rw (end_after-append e l r, end_after-append e m r, k.end e) refl;
-}
-
-pub edges_back : (l r s : List Span) → KeepsEdges r s → KeepsEdges (l ++ r) (l ++ s)
-edges_back l r s k = record {
-  first = λ lo. rw (first_or-append lo l r, first_or-append lo l s, k.first lo) refl;
-  end = λ e. rw (end_after-append e l r, end_after-append e l s) (k.end (end_after e l));
-}
-
-pub edges_some : (l m : List Span) → 0 < length l → 0 < length m → first_lo m ≡ first_lo l → end_after 0 m ≡ end_after 0 l → KeepsEdges l m
-edges_some [] m p q f e = absurd (omega arith)
-edges_some (x ∷ l) [] p q f e = absurd (omega arith)
-edges_some (x ∷ l) (y ∷ m) p q f e = record { first = λ lo. f; end = λ d. e }

@@ -92,9 +92,8 @@ left_but old now windows i until w t within a =
 pub but_held : (k : Frames) (old now : List Span) (windows : List Frames) → IsLeftBut k old windows now → Holds k.lo now
 but_held k old now windows t = rw t.is (holds_with (span_of k true) t.rest)
 
-pub few_but : (k : Frames) (old now : List Span) (windows : List Frames) (until : ℕ) → IsLeftBut k old windows now → until ≤ 2 ^ 40 → LieWithin 1 old until → length now ≤ 2 ^ 40
-few_but k old now windows until t small within =
-    let n = length_within 1 until now (t.within 1 until within) in omega arith
+pub rises_but : (k : Frames) (old now : List Span) (windows : List Frames) (until : ℕ) → IsLeftBut k old windows now → LieWithin 1 old until → IsRisingFrom 0 now
+rises_but k old now windows until t within = rising-weaken 0 1 now (omega arith) (t.within 1 until within).0
 
 -- and once it is taken out, the others are left
 pub left_once : (k : Frames) (old now next : List Span) (windows : List Frames) (until : ℕ) (x : Span) → IsLeftBut k old windows now → LieWithin 1 old until → now ≡ with_span x next → x.lo ≡ k.lo → IsLeftOf old windows next

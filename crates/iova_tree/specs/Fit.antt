@@ -5,7 +5,7 @@ use Rattle.iova_range.specs.Sizes.{align_of}
 use Rattle.iova_tree.specs.Spans.{Span, end_after}
 use Rattle.iova_tree.specs.declared.search.Wanted.{Wanted}
 use Rattle.iova_tree.specs.declared.search.Found.{Found}
-use Rattle.iova_tree.specs.declared.search.Found.TheVariants.{Nowhere, At, Taken, Marked}
+use Rattle.iova_tree.specs.declared.search.Found.TheVariants.{Nowhere, At, Taken}
 
 -- a request of some frames, at most those that `room` speaks of, with the alignment of its size,
 -- and a cap that a range may end at
@@ -61,4 +61,3 @@ abbrev pub IsFound : Option ℕ → Type 0 → (ℕ → Type 0) → Found → Ty
 IsFound highest is_same is_taken Nowhere = (highest ≡ None) × is_same
 IsFound highest is_same is_taken (At lo) = (highest ≡ Some lo) × is_same
 IsFound highest is_same is_taken (Taken lo) = (highest ≡ Some lo) × is_taken lo
-IsFound highest is_same is_taken (Marked lo) = (highest ≡ Some lo) × is_taken lo

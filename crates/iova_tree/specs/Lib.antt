@@ -1,5 +1,5 @@
 pub mod Room
 pub mod Spans
-pub mod Node
+pub mod Branches
 pub mod Fit
 pub mod Space

@@ -1,5 +1,5 @@
 -- Allocated ranges in a row: where they end, whether they rise apart, the room between them.
-use Rattle.std.specs.Prelude.{◌≡◌, ℕ, ◌+◌, ◌-◌, ◌/◌, ◌^◌, ◌<◌, ◌≤◌, ◌⊎◌, max, Bool, true, false, not, nat_lt, nat_le, nat_eq, ◌&&◌, List, [], ◌∷◌, length, slice_index_or, insert, remove, if◌then◌else◌}
+use Rattle.std.specs.Prelude.{◌≡◌, ℕ, ◌+◌, ◌-◌, ◌/◌, ◌^◌, ◌<◌, ◌≤◌, ◌⊎◌, max, Bool, true, false, not, nat_lt, nat_le, nat_eq, ◌&&◌, List, [], ◌∷◌, length, slice_index_or, slice_set, remove, if◌then◌else◌}
 use Rattle.iova_range.specs.Frames.{Frames}
 use Rattle.iova_tree.specs.Room.{room}
 
@@ -113,20 +113,5 @@ pub record StandsHere (lo : ℕ) (l : List Span) (n : ℕ) : Type 0 where
   pub within : n < length l
   pub begins : (x : Span) → (slice_index_or l n x).lo ≡ lo
   pub without : remove l n ≡ without_span lo l
-  pub replaced : (x : Span) → insert (remove l n) n x ≡ with_replaced lo x l
+  pub replaced : (x : Span) → slice_set l n x ≡ with_replaced lo x l
   pub again : (x : Span) → l ≡ with_span (slice_index_or l n x) (without_span lo l)
-
--- x comes in between the ranges at place n, and there is no more room then
-pub record GoesIn (n : ℕ) (x : Span) (l : List Span) : Type 0 where
-  pub within : n ≤ length l
-  pub is : insert l n x ≡ with_span x l
-  pub room : room_between (insert l n x) ≤ room_between l
-
--- the ranges `now` begin and end where `old` did
-pub record KeepsEdges (old now : List Span) : Type 0 where
-  pub first : (lo : ℕ) → first_or lo now ≡ first_or lo old
-  pub end : (e : ℕ) → end_after e now ≡ end_after e old
-
--- a balanced tree of so many ranges is not higher
-abbrev pub IsLow : List Span → ℕ → Type 0
-IsLow l h = 2 ^ (h / 2) ≤ length l + 1

@@ -3,12 +3,12 @@
 #![tactic(auto)]
 
 mod block;
+mod branch;
+mod node;
 mod position;
 mod ranges;
 mod room;
 mod search;
 mod span;
-mod subtree;
 pub mod tree;
-mod ways;
 mod window;

@@ -21,8 +21,6 @@ pub enum Found {
     At(u64),
     /// This is the highest place, and it has been taken.
     Taken(u64),
-    /// This is the highest place, and it has been taken, in a block that wasn't marked before.
-    Marked(u64),
 }
 
 /// The greatest multiple of the alignment from which the frames lie from `from` on and below

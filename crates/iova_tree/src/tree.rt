@@ -44,9 +44,9 @@ impl Model for Tree {
 
     ghost Value = { Space };
 
-    ghost view = { λ t. space_of t.bounds t.ranges.0 t.windows.items };
+    ghost view = { λ t. space_of t.bounds t.ranges t.windows.items };
 
-    ghost invariant = { λ t. IsTreeKept t.bounds t.ranges.0 t.windows.items };
+    ghost invariant = { λ t. IsTreeKept t.bounds t.ranges t.windows.items };
 }
 
 impl Tree {
@@ -62,7 +62,7 @@ impl Tree {
         Ok(Tree {
             alloc,
             bounds,
-            ranges: Ranges::new(),
+            ranges: Ranges::new(alloc),
             windows: Vec::new(alloc),
         })
     }
@@ -128,7 +128,6 @@ impl Tree {
         match self.ranges.take_highest(self.bounds.start(), &wanted) {
             Found::Nowhere => Ok(None),
             Found::Taken(lo) => Ok(Some(Range::new(lo, size))),
-            Found::Marked(lo) => Ok(Some(Range::new(lo, size))),
             Found::At(lo) => {
                 let range = Range::new(lo, size);
                 let Ok(()) = self.insert(range) else {

@@ -39,12 +39,12 @@ pub fn absorb(
     window: Range,
 ) -> (Range, Option<Range>)
     requires own { 1 ≤ window.lo }
-    requires within { (until : ℕ) × (until ≤ 2 ^ 40) × LieWithin 1 ranges.old.0 until }
-    requires same { windows.old.items ≡ windows_of ranges.old.0 }
+    requires within { (until : ℕ) × (until ≤ 2 ^ 40) × LieWithin 1 ranges.old until }
+    requires same { windows.old.items ≡ windows_of ranges.old }
     ensures value { result.0 ≡ union window windows.old.items }
     ensures rest { windows.new.items ≡ clear_of window windows.old.items }
     ensures room { vec_capacity windows.new ≡ vec_capacity windows.old }
-    ensures left { AreTakenBut result.1 ranges.old.0 windows.new.items ranges.new.0 }
+    ensures left { AreTakenBut result.1 ranges.old windows.new.items ranges.new }
     ensures part { IfSome result.1 (λ kept. IsPartOf kept result.0) }
     ensures none { IfNone result.1 (windows.new.items ≡ windows.old.items) }
 {

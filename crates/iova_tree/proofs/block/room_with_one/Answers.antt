@@ -12,13 +12,13 @@ room_with-requires-then-at-spans c = record {
   apart = rw (c.end-then-at-spans.ensures, c.lo-then-at-spans.ensures) (inserted_high c.args.spans.now c.args.at c.args.span c.index-spans-at.result (omega (arith, c.if-at-eq0.false)) c.requires.within c.index-spans-at.is c.requires.free);
 }
 
-pub returns-then-at-spans : goal.returns-then-at-spans
-returns-then-at-spans c =
+pub returns-then-at-spans-clause-room : goal.returns-then-at-spans-clause-room
+returns-then-at-spans-clause-room c =
     let l = inserted_last c.args.spans.now c.args.at c.args.span c.index-spans-at.result (omega (arith, c.if-at-eq0.false)) c.if-at-spans.true c.index-spans-at.is in
     let r = rw (c.end-then-at-spans.ensures, c.lo-then-at-spans.ensures) at c.room_with-then-at-spans.ensures in
     omega (arith, l, r, c.requires.known)
 
-pub returns : goal.returns
-returns c =
+pub returns-clause-room : goal.returns-clause-room
+returns-clause-room c =
     let m = inserted_most c.args.spans.now c.args.at c.args.span (omega (arith, c.if-at-eq0.false)) (omega (arith, c.requires.within, c.if-at-spans.false)) c.requires.free in
     omega (arith, m, c.requires.known)

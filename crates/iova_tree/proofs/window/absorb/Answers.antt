@@ -1,6 +1,6 @@
 use Rattle.std.proofs.Common.{◌≡◌, ◌-◌, Some, None, length, refl, sym, ◌∙◌, rules, arith}
 use Rattle.iova_tree.proofs.Absorbing.{absorbs_first, absorbs_join, absorbs_keep, absorbs_all, absorbs_within}
-use Rattle.iova_tree.proofs.Taking.{left_first, left_but, left_once, is_at, but_held, few_but, above_any, above_zero, part_join}
+use Rattle.iova_tree.proofs.Taking.{left_first, left_but, left_once, is_at, but_held, rises_but, above_any, above_zero, part_join}
 use Rattle.iova_tree.proofs.window.absorb.Goals as goal
 
 pub join-all-requires-clause-second : goal.join-all-requires-clause-second
@@ -20,11 +20,11 @@ remove-requires-clause-held c =
     let t = rw kept at c.loop-i.invariant.left in
     rw c.lo.ensures (but_held c.in-Some.before _ _ _ t)
 
-pub remove-requires-clause-few : goal.remove-requires-clause-few
-remove-requires-clause-few c =
+pub remove-requires-clause-rising : goal.remove-requires-clause-rising
+remove-requires-clause-rising c =
     let kept : c.loop-i.kept ≡ Some c.in-Some.before = sym c.replace.ensures.value ∙ c.in-Some.is in
     let t = rw kept at c.loop-i.invariant.left in
-    few_but c.in-Some.before _ _ _ c.requires.within.0 t c.requires.within.1 c.requires.within.2
+    rises_but c.in-Some.before _ _ _ c.requires.within.0 t c.requires.within.2
 
 pub loop-i-preserved-in-Some : goal.loop-i-preserved-in-Some
 loop-i-preserved-in-Some c =
@@ -33,8 +33,8 @@ loop-i-preserved-in-Some c =
     let kept : c.loop-i.kept ≡ Some c.in-Some.before = sym c.replace.ensures.value ∙ c.in-Some.is in
     let t = rw kept at i.left in
     let e = c.remove.ensures in
-    let left = left_once c.in-Some.before _ _ c.remove.new.self.0 _ c.requires.within.0 c.remove.result t c.requires.within.2 e.taken (e.begins ∙ c.lo.ensures) in
-    let a = is_at _ c.remove.new.self.0 _ (c.loop-i.i - 1) c.requires.within.0 c.remove-other.result left c.requires.within.2 (omega (arith, within, c.loop-i-test.true)) c.remove-other.ensures.value in
+    let left = left_once c.in-Some.before _ _ c.remove.new.self _ c.requires.within.0 c.remove.result t c.requires.within.2 e.taken (e.begins ∙ c.lo.ensures) in
+    let a = is_at _ c.remove.new.self _ (c.loop-i.i - 1) c.requires.within.0 c.remove-other.result left c.requires.within.2 (omega (arith, within, c.loop-i-test.true)) c.remove-other.ensures.value in
     record {
       absorbs = rw (c.join-all.ensures, c.remove-other.ensures.items)
           (absorbs_join _ _ _ _ _ c.index.result.now c.remove-other.result c.loop-i-test.true i.absorbs c.index.ensures c.remove-other.ensures.value (rw c.meets.ensures at c.if-meets.true) (above_zero _ _ c.requires.within.0 c.requires.within.2 c.requires.same));

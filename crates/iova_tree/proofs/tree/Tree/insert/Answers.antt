@@ -2,25 +2,22 @@ use Rattle.std.proofs.Common.{◌≡◌, ◌++◌, true, false, refl}
 use Rattle.iova_model.specs.Fit.{is_clear}
 use Rattle.iova_tree.specs.Spans.{inserted_of, span_of}
 use Rattle.iova_tree.specs.Space.{IsInside}
-use Rattle.iova_tree.proofs.Kept.{few_kept, with_rises, rises_from_zero, kept_insert, inserted_with}
+use Rattle.iova_tree.proofs.Kept.{with_rises, rises_from_zero, kept_insert, inserted_with}
 use Rattle.iova_tree.proofs.Allocated.{kept_space}
 use Rattle.iova_tree.proofs.tree.Tree.insert.Goals as goal
 
-pub insert-requires-clause-free : goal.insert-requires-clause-free
-insert-requires-clause-free c =
+pub insert-requires : goal.insert-requires
+insert-requires c =
     let i = c.self.inside in
-    let free : is_clear c.args.range (i.windows.items ++ inserted_of i.ranges.0) ≡ true = rw (← c.self.view_is) at c.requires.free in
+    let free : is_clear c.args.range (i.windows.items ++ inserted_of i.ranges) ≡ true = rw (← c.self.view_is) at c.requires.free in
     let inside : IsInside i.bounds c.args.range = rw (← c.self.view_is) at c.requires.inside in
     let own : c.new-span.result ≡ span_of c.args.range false = rw (c.lo.ensures, c.hi.ensures) at c.new-span.ensures in
-    rw own (rises_from_zero i.bounds _ (with_rises _ _ _ c.args.range false c.self.invariant inside free))
-
-pub insert-requires-clause-few : goal.insert-requires-clause-few
-insert-requires-clause-few c = few_kept _ _ _ c.self.invariant (rw c.last-last.ensures.is at c.last-last.ensures.small)
+    record { free = rw own (rises_from_zero i.bounds _ (with_rises _ _ _ c.args.range false c.self.invariant inside free)) }
 
 pub invariant_of-self-2 : goal.invariant_of-self-2
 invariant_of-self-2 c =
     let i = c.self.inside in
-    let free : is_clear c.args.range (i.windows.items ++ inserted_of i.ranges.0) ≡ true = rw (← c.self.view_is) at c.requires.free in
+    let free : is_clear c.args.range (i.windows.items ++ inserted_of i.ranges) ≡ true = rw (← c.self.view_is) at c.requires.free in
     let inside : IsInside i.bounds c.args.range = rw (← c.self.view_is) at c.requires.inside in
     let own : c.new-span.result ≡ span_of c.args.range false = rw (c.lo.ensures, c.hi.ensures) at c.new-span.ensures in
     rw (c.in-Ok.ensures.ok, own) (kept_insert _ _ _ c.args.range c.self.invariant inside free)

@@ -1,0 +1,248 @@
+-- The highest place behind links, once those that are too short for it are passed over.
+use Rattle.std.proofs.Common.{ℕ, zero, suc, Bool, true, false, ◌≡◌, ◌+◌, ◌-◌, ◌<◌, ◌≤◌, max, min, List, [], ◌∷◌, ◌++◌, length, take, drop, slice_index_or, slice_set, Option, Some, None, refl, sym, ap, subst, ◌∙◌, arith, take-append-drop}
+use Rattle.std.specs.Prelude.{◌==◌}
+use Rattle.std.proofs.lemmas.List.{append-nil, length-take-le, get_or_default}
+use Rattle.iova_tree.specs.Room.{room}
+use Rattle.iova_tree.specs.Spans.{Span, end_after, first_lo, room_between, room_after, with_span, IsRisingFrom, IsBefore}
+use Rattle.iova_tree.specs.declared.branch.Link.{Link}
+use Rattle.iova_tree.specs.declared.search.Wanted.{Wanted}
+use Rattle.iova_tree.specs.declared.search.Found.{Found}
+use Rattle.iova_tree.specs.declared.search.Found.TheVariants.{Nowhere, At, Taken}
+use Rattle.iova_tree.specs.Fit.{IsWanted, IsFound, higher, highest_after, highest_between, taken}
+use Rattle.iova_tree.specs.Branches.{spans_below, IsLinked, AreLinked, AreLinkedBehind, AreAllBelow}
+use Rattle.iova_tree.proofs.Spans.{end_after-append, end_after-any, rising-front, rising-back, rising-weaken, rising-end, with_span-before, with_span-here, before_all}
+use Rattle.iova_tree.proofs.Fits.{highest_after-append, highest_after-no_room, higher-none, no_place_low, place_greatest, wanted_align}
+use Rattle.iova_tree.proofs.Rooms.{room-nothing}
+use Rattle.iova_tree.proofs.Found.{comes_in}
+use Rattle.iova_tree.proofs.Branches.{parts_at, set_at, room_after-first, below-append, below_parts, in_parts, joined_parts, linked_front, end_last, some_below}
+
+pub not_empty : (n : ℕ) → false ≡ (n == 0) → 0 < n
+not_empty zero is = absurd cc
+not_empty (suc n) is = omega arith
+
+-- the first places of a list
+pub index_take : {A : Type 0} (l : List A) (at k : ℕ) (d : A) → k < at → slice_index_or (take at l) k d ≡ slice_index_or l k d
+index_take [] zero k d lt = absurd (omega arith)
+index_take [] (suc at) k d lt = refl
+index_take (x ∷ l) zero k d lt = absurd (omega arith)
+index_take (x ∷ l) (suc at) zero d lt = refl
+index_take (x ∷ l) (suc at) (suc k) d lt = index_take l at k d (omega arith)
+
+module _ {N : Type 0} (spans : N → List Span) (w : Wanted) (h : IsWanted w) where
+  room_linked : (e : ℕ) (k : Link N) → IsLinked (spans k.node) k.first k.end k.room → room e k.first ≤ k.room → room_after e (spans k.node) ≤ k.room
+  room_linked e k own gap =
+      let f = room_after-first e (spans k.node) own.some in
+      let g = rw own.first_is at gap in
+      omega (arith, f, g, own.room_most)
+
+  -- nothing fits behind links that have less room
+  none_above : (e : ℕ) (b : List (Link N)) → AreAllBelow w.size b → AreLinkedBehind spans e b → highest_after w e (spans_below spans b) ≡ None
+  none_above e [] below linked = refl
+  none_above e (k ∷ b) below linked =
+      let own : highest_after w e (spans k.node) ≡ None = highest_after-no_room w e (spans k.node) h (omega (arith, room_linked e k linked.0 linked.1, below.0)) in
+      let end : end_after e (spans k.node) ≡ k.end = end_after-any e 0 (spans k.node) linked.0.some ∙ sym linked.0.end_is in
+      rw (highest_after-append w e (spans k.node) (spans_below spans b), end, none_above k.end b below.1 linked.2) own
+
+  module _ (from : ℕ) (a : List (Link N)) (k : Link N) (b : List (Link N)) (linked : AreLinked spans (a ++ k ∷ b)) (rising : IsRisingFrom from (spans_below spans (a ++ k ∷ b))) where
+    abbrev pub low : List Span
+    low = spans_below spans a
+
+    abbrev pub own : List Span
+    own = spans k.node
+
+    abbrev pub high : List Span
+    high = spans_below spans b
+
+    parts : spans_below spans (a ++ k ∷ b) ≡ low ++ (own ++ high)
+    parts = below_parts spans a k b
+
+    rises : IsRisingFrom from (low ++ (own ++ high))
+    rises = rw parts at rising
+
+    pub is_linked : IsLinked own k.first k.end k.room
+    is_linked = (in_parts spans a k b linked).own
+
+    pub rising_low : IsRisingFrom from low
+    rising_low = rising-front from low (own ++ high) rises
+
+    pub rising_own : IsRisingFrom (end_after from low) own
+    rising_own = rising-front (end_after from low) own high (rising-back from low (own ++ high) rises)
+
+    own_end : end_after (end_after from low) own ≡ k.end
+    own_end = end_after-any (end_after from low) 0 own is_linked.some ∙ sym is_linked.end_is
+
+    rising_high : IsRisingFrom k.end high
+    rising_high = rw own_end at (rising-back (end_after from low) own high (rising-back from low (own ++ high) rises))
+
+    pub whole : AreAllBelow w.size b → highest_after w from (spans_below spans (a ++ k ∷ b)) ≡ higher (highest_after w (end_after from low) own) (highest_after w from low)
+    whole below = rw (parts, highest_after-append w from low (own ++ high), highest_after-append w (end_after from low) own high, own_end, none_above k.end b below (in_parts spans a k b linked).high) refl
+
+    -- the link is exchanged for one with this range more
+    pub taken_own : (n : Link N) (lo : ℕ) → highest_after w (end_after from low) own ≡ Some lo → spans n.node ≡ with_span (taken w lo) own
+        → spans_below spans (a ++ n ∷ b) ≡ with_span (taken w lo) (spans_below spans (a ++ k ∷ b))
+    taken_own n lo found is =
+        let i = comes_in w (end_after from low) own lo h rising_own found in
+        let r = rising-weaken 0 from _ (omega arith) rises in
+        let le : end_after 0 low ≤ end_after from low = lower low in
+        rw (below_parts spans a n b, is, parts) (sym (with_span-here (taken w lo) low own high r (omega (arith, i.low, le)) (before_all k.end (taken w lo) high (omega (arith, i.high, own_end)) rising_high)))
+      where
+        lower : (l : List Span) → end_after 0 l ≤ end_after from l
+        lower [] = omega arith
+        lower (x ∷ l) = omega arith
+
+    pub same_own : (n : Link N) → spans n.node ≡ own → spans_below spans (a ++ n ∷ b) ≡ spans_below spans (a ++ k ∷ b)
+    same_own n is = rw (below_parts spans a n b, is, parts) refl
+
+    -- the links before it are exchanged for some with this range more
+    pub taken_low : (m : List (Link N)) (n : Link N) (lo : ℕ) → highest_after w from low ≡ Some lo → spans n.node ≡ own → spans_below spans m ≡ with_span (taken w lo) low
+        → spans_below spans (m ++ n ∷ b) ≡ with_span (taken w lo) (spans_below spans (a ++ k ∷ b))
+    taken_low m n lo found same is =
+        let i = comes_in w from low lo h rising_low found in
+        rw (below_parts spans m n b, is, same, parts) (sym (with_span-before (taken w lo) low (own ++ high) (before_all (end_after from low) (taken w lo) (own ++ high) i.high (rising-back from low (own ++ high) rises))))
+
+    pub found_own : AreAllBelow w.size b → (n : Link N) (o : Found) → (o ≡ Nowhere → ⊥) → IsFound (highest_after w (end_after from low) own) (spans n.node ≡ own) (λ lo. spans n.node ≡ with_span (taken w lo) own) o
+        → IsFound (highest_after w from (spans_below spans (a ++ k ∷ b))) (spans_below spans (a ++ n ∷ b) ≡ spans_below spans (a ++ k ∷ b)) (λ lo. spans_below spans (a ++ n ∷ b) ≡ with_span (taken w lo) (spans_below spans (a ++ k ∷ b))) o
+    found_own below n Nowhere some f = absurd (some refl)
+    found_own below n (At lo) some f = (rw (whole below, f.0) refl, same_own n f.1)
+    found_own below n (Taken lo) some f = (rw (whole below, f.0) refl, taken_own n lo f.0 f.1)
+
+    pub found_low : AreAllBelow w.size b → (m : List (Link N)) (n : Link N) (o : Found) → highest_after w (end_after from low) own ≡ None → spans n.node ≡ own → IsFound (highest_after w from low) (spans_below spans m ≡ low) (λ lo. spans_below spans m ≡ with_span (taken w lo) low) o
+        → IsFound (highest_after w from (spans_below spans (a ++ k ∷ b))) (spans_below spans (m ++ n ∷ b) ≡ spans_below spans (a ++ k ∷ b)) (λ lo. spans_below spans (m ++ n ∷ b) ≡ with_span (taken w lo) (spans_below spans (a ++ k ∷ b))) o
+    found_low below m n Nowhere none same f = (rw (whole below, none) f.0, rw (below_parts spans m n b, f.1, same, parts) refl)
+    found_low below m n (At lo) none same f = (rw (whole below, none) f.0, rw (below_parts spans m n b, f.1, same, parts) refl)
+    found_low below m n (Taken lo) none same f = (rw (whole below, none) f.0, taken_low m n lo f.0 same f.1)
+
+  -- the first of the links alone
+  pub found_first : (from : ℕ) (k n : Link N) (b : List (Link N)) (o : Found) → AreLinked spans (k ∷ b) → IsRisingFrom from (spans_below spans (k ∷ b)) → AreAllBelow w.size b
+      → IsFound (highest_after w from (spans k.node)) (spans n.node ≡ spans k.node) (λ lo. spans n.node ≡ with_span (taken w lo) (spans k.node)) o
+      → IsFound (highest_after w from (spans_below spans (k ∷ b))) (spans_below spans (n ∷ b) ≡ spans_below spans (k ∷ b)) (λ lo. spans_below spans (n ∷ b) ≡ with_span (taken w lo) (spans_below spans (k ∷ b))) o
+  found_first from k n b Nowhere linked rising below f = (rw (whole from [] k b linked rising below, f.0) refl, rw f.1 refl)
+  found_first from k n b (At lo) linked rising below f = (rw (whole from [] k b linked rising below, f.0) refl, rw f.1 refl)
+  found_first from k n b (Taken lo) linked rising below f = (rw (whole from [] k b linked rising below, f.0) refl, taken_own from [] k b linked rising n lo f.0 f.1)
+
+  pub set_first : (from : ℕ) (links : List (Link N)) (d n : Link N) (o : Found) → 0 < length links → AreLinked spans links → IsRisingFrom from (spans_below spans links) → AreAllBelow w.size (drop 1 links)
+      → IsFound (highest_after w from (spans (slice_index_or links 0 d).node)) (spans n.node ≡ spans (slice_index_or links 0 d).node) (λ lo. spans n.node ≡ with_span (taken w lo) (spans (slice_index_or links 0 d).node)) o
+      → IsFound (highest_after w from (spans_below spans links)) (spans_below spans (slice_set links 0 n) ≡ spans_below spans links) (λ lo. spans_below spans (slice_set links 0 n) ≡ with_span (taken w lo) (spans_below spans links)) o
+  set_first from [] d n o some linked rising below f = absurd (omega arith)
+  set_first from (k ∷ b) d n o some linked rising below f = found_first from k n b o linked rising below f
+
+-- The link at a place.
+
+pub before_end_low : {N : Type 0} (spans : N → List Span) (from : ℕ) (links : List (Link N)) (at : ℕ) (d : Link N) → AreLinked spans (take at links) → 1 ≤ at → at < length links
+    → (slice_index_or links (at - 1) d).end ≡ end_after from (spans_below spans (take at links))
+before_end_low {N} spans from links at d low some lt =
+    let n : length (take at links) ≡ at = length-take-le at links (omega arith) in
+    let k : Link N = slice_index_or links (at - 1) d in
+    let last : k ≡ slice_index_or (take at links) (length (take at links) - 1) k =
+    rw (n, index_take links at (at - 1) k (omega arith)) (get_or_default links (at - 1) d k (omega arith)) in
+    end_last spans from (take at links) k low (omega (arith, n)) last
+
+pub before_end : {N : Type 0} (spans : N → List Span) (from : ℕ) (links : List (Link N)) (at : ℕ) (d : Link N) → AreLinked spans links → 1 ≤ at → at < length links
+    → (slice_index_or links (at - 1) d).end ≡ end_after from (spans_below spans (take at links))
+before_end spans from links at d linked some lt = before_end_low spans from links at d (linked_front spans (take at links) (drop at links) (rw (sym (take-append-drop at links)) at linked)) some lt
+
+module _ {N : Type 0} (spans : N → List Span) (w : Wanted) (h : IsWanted w) (from : ℕ) (links : List (Link N)) (at : ℕ) (d : Link N) (lt : at < length links) (linked : AreLinked spans links) (rising : IsRisingFrom from (spans_below spans links)) where
+  abbrev pub before_at : List (Link N)
+  before_at = take at links
+
+  abbrev pub behind_at : List (Link N)
+  behind_at = drop (at + 1) links
+
+  abbrev pub link_at : Link N
+  link_at = slice_index_or links at d
+
+  parts_here : links ≡ before_at ++ link_at ∷ behind_at
+  parts_here = parts_at links at d lt
+
+  linked_here : AreLinked spans (before_at ++ link_at ∷ behind_at)
+  linked_here = rw parts_here at linked
+
+  rising_here : IsRisingFrom from (spans_below spans (before_at ++ link_at ∷ behind_at))
+  rising_here = rw parts_here at rising
+
+  pub at_linked : IsLinked (spans link_at.node) link_at.first link_at.end link_at.room
+  at_linked = is_linked spans w h from before_at link_at behind_at linked_here rising_here
+
+  pub at_rising : IsRisingFrom (end_after from (spans_below spans before_at)) (spans link_at.node)
+  at_rising = rising_own spans w h from before_at link_at behind_at linked_here rising_here
+
+  pub low_linked : AreLinked spans before_at
+  low_linked = (in_parts spans before_at link_at behind_at linked_here).low
+
+  pub low_rising : IsRisingFrom from (spans_below spans before_at)
+  low_rising = rising_low spans w h from before_at link_at behind_at linked_here rising_here
+
+  pub at_gap : 1 ≤ at → room (end_after from (spans_below spans before_at)) link_at.first ≤ link_at.room
+  at_gap some =
+      let n : length before_at ≡ at = length-take-le at links (omega arith) in
+      let e = end_after-any from 0 (spans_below spans before_at) (some_below spans before_at low_linked (omega (arith, n))) in
+      let g = (in_parts spans before_at link_at behind_at linked_here).gap (omega (arith, n)) in
+      rw e g
+
+  pub at_whole : AreAllBelow w.size behind_at → highest_after w from (spans_below spans links) ≡ higher (highest_after w (end_after from (spans_below spans before_at)) (spans link_at.node)) (highest_after w from (spans_below spans before_at))
+  at_whole below = subst (λ l. highest_after w from (spans_below spans l) ≡ higher (highest_after w (end_after from (spans_below spans before_at)) (spans link_at.node)) (highest_after w from (spans_below spans before_at))) (sym parts_here) (whole spans w h from before_at link_at behind_at linked_here rising_here below)
+
+  -- another link in its place
+  pub set_linked : (n : Link N) → IsLinked (spans n.node) n.first n.end n.room → (1 ≤ at → room (end_after from (spans_below spans before_at)) n.first ≤ n.room) → n.end ≡ link_at.end → AreLinked spans (slice_set links at n)
+  set_linked n own gap end =
+      let i = in_parts spans before_at link_at behind_at linked_here in
+      let m : length before_at ≡ at = length-take-le at links (omega arith) in
+      rw (set_at links at n lt) (joined_parts spans before_at n behind_at (record {
+        low = i.low;
+        own = own;
+        gap = λ some. (let e = end_after-any from 0 (spans_below spans before_at) (some_below spans before_at low_linked some) in rw e at (gap (omega (arith, m))));
+        high = rw end i.high;
+      }))
+
+  pub set_found : AreAllBelow w.size behind_at → (n : Link N) (o : Found) → (o ≡ Nowhere → ⊥) → IsFound (highest_after w (end_after from (spans_below spans before_at)) (spans link_at.node)) (spans n.node ≡ spans link_at.node) (λ lo. spans n.node ≡ with_span (taken w lo) (spans link_at.node)) o
+      → IsFound (highest_after w from (spans_below spans links)) (spans_below spans (slice_set links at n) ≡ spans_below spans links) (λ lo. spans_below spans (slice_set links at n) ≡ with_span (taken w lo) (spans_below spans links)) o
+  set_found below n o some f =
+      let r = found_own spans w h from before_at link_at behind_at linked_here rising_here below n o some f in
+      rw (set_at links at n lt) (subst (λ l. IsFound (highest_after w from (spans_below spans l)) (spans_below spans (before_at ++ n ∷ behind_at) ≡ spans_below spans l) (λ lo. spans_below spans (before_at ++ n ∷ behind_at) ≡ with_span (taken w lo) (spans_below spans l)) o) (sym parts_here) r)
+
+  -- where nothing was found there, what was found before it is what is sought
+  pub set_low : AreAllBelow w.size behind_at → (n : Link N) (m : List (Link N)) (o : Found) → highest_after w (end_after from (spans_below spans before_at)) (spans link_at.node) ≡ None → spans n.node ≡ spans link_at.node
+      → IsFound (highest_after w from (spans_below spans before_at)) (spans_below spans m ≡ spans_below spans before_at) (λ lo. spans_below spans m ≡ with_span (taken w lo) (spans_below spans before_at)) o
+      → IsFound (highest_after w from (spans_below spans links)) (spans_below spans (m ++ n ∷ behind_at) ≡ spans_below spans links) (λ lo. spans_below spans (m ++ n ∷ behind_at) ≡ with_span (taken w lo) (spans_below spans links)) o
+  set_low below n m o none same f =
+      let r = found_low spans w h from before_at link_at behind_at linked_here rising_here below m n o none same f in
+      subst (λ l. IsFound (highest_after w from (spans_below spans l)) (spans_below spans (m ++ n ∷ behind_at) ≡ spans_below spans l) (λ lo. spans_below spans (m ++ n ∷ behind_at) ≡ with_span (taken w lo) (spans_below spans l)) o) (sym parts_here) r
+
+  -- in front of this link lie these links, which end where those before did
+  pub low_set : (n : Link N) (m : List (Link N)) → AreLinked spans m → IsLinked (spans n.node) n.first n.end n.room → (0 < length m → room (end_after 0 (spans_below spans m)) n.first ≤ n.room) → n.end ≡ link_at.end → AreLinked spans (m ++ n ∷ behind_at)
+  low_set n m low own gap end =
+      let i = in_parts spans before_at link_at behind_at linked_here in
+      joined_parts spans m n behind_at (record { low = low; own = own; gap = gap; high = rw end i.high })
+
+-- where these links end, one range more or not
+pub end_found : {N : Type 0} (spans : N → List Span) (w : Wanted) (h : IsWanted w) (from : ℕ) (a m : List (Link N)) (o : Found) → IsRisingFrom from (spans_below spans a)
+    → IsFound (highest_after w from (spans_below spans a)) (spans_below spans m ≡ spans_below spans a) (λ lo. spans_below spans m ≡ with_span (taken w lo) (spans_below spans a)) o → end_after from (spans_below spans m) ≡ end_after from (spans_below spans a)
+end_found spans w h from a m Nowhere r f = ap (end_after from) f.1
+end_found spans w h from a m (At lo) r f = ap (end_after from) f.1
+end_found spans w h from a m (Taken lo) r f = ap (end_after from) f.1 ∙ (comes_in w from (spans_below spans a) lo h r f.0).same_end
+
+-- no gap has more room once a range was taken from it
+pub room_found : (w : Wanted) (h : IsWanted w) (from : ℕ) (l m : List Span) (o : Found) → IsRisingFrom from l
+    → IsFound (highest_after w from l) (m ≡ l) (λ lo. m ≡ with_span (taken w lo) l) o → room_after from m ≤ room_after from l
+room_found w h from l m Nowhere r f = rw f.1 (omega arith)
+room_found w h from l m (At lo) r f = rw f.1 (omega arith)
+room_found w h from l m (Taken lo) r f = rw f.1 (comes_in w from l lo h r f.0).room
+
+-- Where the first gap begins at the lowest range, only those between neighbours are left.
+
+pub rising_own_from : (e : ℕ) (l : List Span) → IsRisingFrom e l → IsRisingFrom (first_lo l) l
+rising_own_from e [] r = tt
+rising_own_from e (x ∷ l) r = (omega arith, r.1, r.2)
+
+pub after_own : (w : Wanted) (l : List Span) → IsWanted w → 0 < length l → highest_after w (first_lo l) l ≡ highest_between w l
+after_own w [] h some = absurd (omega arith)
+after_own w (x ∷ l) h some =
+    rw (no_place_low w x.lo (min x.lo w.cap) _ (place_greatest w x.lo (min x.lo w.cap) (wanted_align w h)) h.some (omega arith)) (higher-none _)
+
+pub room_own : (l : List Span) → 0 < length l → room_after (first_lo l) l ≡ room_between l
+room_own [] some = absurd (omega arith)
+room_own (x ∷ l) some = let z = room-nothing x.lo x.lo (omega arith) in rw z (omega arith)
+
+pub some_first : (l : List Span) → 0 < length l → IsRisingFrom 1 l → 1 ≤ first_lo l
+some_first [] some r = absurd (omega arith)
+some_first (x ∷ l) some r = r.0
