@@ -1,5 +1,5 @@
 -- The windows and the inserted ranges among all: one more, one less, where they lie, what they cover.
-use Rattle.std.proofs.Common.{◌≡◌, ℕ, ◌+◌, ◌-◌, ◌^◌, ◌<◌, ◌≤◌, ◌⊎◌, inl, inr, ◌||◌, ◌&&◌, Bool, true, false, not, cond, List, [], ◌∷◌, ◌++◌, length, Some, None, refl, sym, ap, ◌∙◌, arith}
+use Rattle.std.proofs.Common.{◌≡◌, ℕ, ◌+◌, ◌-◌, ◌<◌, ◌≤◌, ◌⊎◌, inl, inr, ◌||◌, ◌&&◌, Bool, true, false, not, cond, List, [], ◌∷◌, ◌++◌, Some, None, refl, sym, ap, ◌∙◌, arith}
 use Rattle.std.specs.Prelude.{nat_lt, nat_le, find, IsSome}
 use Rattle.std.specs.List.{AllByRecursion, list_any}
 use Rattle.std.proofs.lemmas.Bool.{and_parts, and_from}
@@ -302,14 +302,6 @@ kept_space bounds l ws h = rw h.windows (record {
   few = rw h.windows at h.few;
   apart = windows_apart bounds.start l h.within.0;
 })
-
--- there are no more ranges than frames
-pub length_within : (from until : ℕ) (l : List Span) → LieWithin from l until → from + length l ≤ until
-length_within from until [] h = omega (arith, h.1)
-length_within from until (x ∷ l) h = let rest = length_within x.end until l (h.0.2, h.1) in omega (arith, h.0.0, h.0.1)
-
-pub few_within : (bounds : Extent) (l : List Span) → bounds.last < 2 ^ 40 → LieWithin bounds.start l (bounds.last + 1) → length l ≤ 2 ^ 40
-few_within bounds l small h = let n = length_within bounds.start (bounds.last + 1) l h in omega arith
 
 pub within_lower : (low from until : ℕ) (l : List Span) → low ≤ from → LieWithin from l until → LieWithin low l until
 within_lower low from until [] le h = (tt, omega (arith, h.1))

@@ -1,9 +1,8 @@
 -- Ranges that rise apart: by index, with one more, with one less.
-use Rattle.std.proofs.Common.{ℕ, zero, suc, ◌≡◌, ◌+◌, ◌<◌, ◌≤◌, ◌&&◌, Bool, true, false, not, ◌⊎◌, inl, inr, List, [], ◌∷◌, ◌++◌, length, Some, None, slice_index_or, refl, ap, ◌∙◌, arith}
-use Rattle.std.specs.Prelude.{nat_lt, find, insert, remove, IsSome}
-use Rattle.std.specs.List.{AllByRecursion}
+use Rattle.std.proofs.Common.{ℕ, zero, suc, ◌≡◌, ◌+◌, ◌<◌, ◌≤◌, ◌&&◌, Bool, true, false, not, ◌⊎◌, inl, inr, List, [], ◌∷◌, ◌++◌, length, Some, None, slice_index_or, refl, ap, arith}
+use Rattle.std.specs.Prelude.{nat_lt, find, insert, remove}
 use Rattle.std.specs.List.Sorted.{IsNonDecreasingBy}
-use Rattle.std.proofs.lemmas.Bool.{and_parts, and_from, cond_both}
+use Rattle.std.proofs.lemmas.Bool.{and_parts, and_from}
 use Rattle.std.proofs.lemmas.Bool.Decides.{nat_tests}
 use Rattle.iova_range.specs.Frames.{Frames, meets}
 use Rattle.iova_model.specs.Fit.{is_clear}
@@ -89,20 +88,7 @@ rise_insert_step from until r x xs false is h start some clear more =
     let le : x.lo ≤ r.lo = grind (arith, nat_tests) in
     rw is (h.0, h.1, more (clear_above r x clear le some))
 
-pub rise_insert : (from until : ℕ) (r : Frames) (xs : List Frames) → RiseApart from xs until → from ≤ r.lo → 1 ≤ r.len → r.lo + r.len ≤ until → is_clear r xs ≡ true → RiseApart from (insert_rising r xs) until
-rise_insert from until r [] h start some end clear = (start, some, end)
-rise_insert from until r (x ∷ xs) h start some end clear =
-    let parts = and_parts (not (meets r x)) (is_clear r xs) clear in
-    rise_insert_step from until r x xs (nat_lt r.lo x.lo) refl h start some parts.0 (λ after. rise_insert (x.lo + x.len) until r xs h.2 after some end parts.1)
-
 -- One less.
-
-pub rise_remove : (from until lo : ℕ) (xs : List Frames) → RiseApart from xs until → RiseApart from (remove_at lo xs) until
-rise_remove from until lo [] h = h
-rise_remove from until lo (x ∷ xs) h =
-    cond_both (begins_at lo x) xs (x ∷ remove_at lo xs) (λ ys. RiseApart from ys until)
-    (λ e. rise_lower from (x.lo + x.len) until xs (omega (arith, h.0)) h.2)
-    (λ e. (h.0, h.1, rise_remove (x.lo + x.len) until lo xs h.2))
 
 -- none begins below the first
 pub find_below : (from until lo : ℕ) (xs : List Frames) → RiseApart from xs until → lo < from → find (begins_at lo) xs ≡ None
@@ -118,39 +104,6 @@ pub record StandsAt (lo : ℕ) (xs : List Frames) (p : ℕ) : Type 0 where
   pub within : p < length xs
   pub found : (d : Frames) → find (begins_at lo) xs ≡ Some (slice_index_or xs p d)
   pub without : remove xs p ≡ remove_at lo xs
-
-stands_first : (from until lo : ℕ) (x : Frames) (xs : List Frames) (b : Bool) → begins_at lo x ≡ b → RiseApart from (x ∷ xs) until → lo ≤ x.lo → IsSome (find (begins_at lo) (x ∷ xs)) → StandsAt lo (x ∷ xs) 0
-stands_first from until lo x xs true is h le found = record { within = omega arith; found = λ d. rw is refl; without = rw is refl }
-stands_first from until lo x xs false is h le found =
-    let lt : lo < x.lo + x.len = grind (arith, nat_tests) in
-    let none : find (begins_at lo) xs ≡ None = find_below (x.lo + x.len) until lo xs h.2 lt in
-    let none_found = rw (is, none) at found in absurd (cc (none_found))
-
--- where a search by first frames ends
-pub stands_at : (from until lo : ℕ) (xs : List Frames) (p : ℕ) → RiseApart from xs until → p ≤ length xs
-    → ((k : ℕ) (d : Frames) → k < p → (slice_index_or xs k d).lo < lo)
-    → ((k : ℕ) (d : Frames) → p ≤ k → k < length xs → lo ≤ (slice_index_or xs k d).lo)
-    → IsSome (find (begins_at lo) xs) → StandsAt lo xs p
-stands_at from until lo [] p h within below above found = absurd (cc (found))
-stands_at from until lo (x ∷ xs) zero h within below above found =
-    stands_first from until lo x xs (begins_at lo x) refl h (above 0 x (omega arith) (omega arith)) found
-stands_at from until lo (x ∷ xs) (suc p) h within below above found =
-    let lt : x.lo < lo = below 0 x (omega arith) in
-    let test : begins_at lo x ≡ false = grind (arith, nat_tests) in
-    let rest = stands_at (x.lo + x.len) until lo xs p h.2 (omega arith) (λ k d l. below (suc k) d (omega arith)) (λ k d l m. above (suc k) d (omega arith) (omega arith)) (rw test at found) in
-    record {
-      within = omega (arith, rest.within);
-      found = λ d. rw test (rest.found d);
-      without = rw test (ap (λ (ys : List Frames). x ∷ ys) rest.without);
-    }
-
--- and where a search over a slice of them ends
-pub searched_remove : (from until lo : ℕ) (xs slice : List Frames) (p : ℕ) → slice ≡ xs → RiseApart from xs until → p ≤ length slice
-    → ((k : ℕ) (d : Frames) → k < p → (slice_index_or slice k d).lo < lo)
-    → ((k : ℕ) (d : Frames) → p ≤ k → k < length slice → lo ≤ (slice_index_or slice k d).lo)
-    → IsSome (find (begins_at lo) xs) → StandsAt lo xs p
-searched_remove from until lo xs slice p is h within below above found =
-    stands_at from until lo xs p h (rw is at within) (λ k d lt. rw is at (below k d lt)) (λ k d le lt. rw is at (above k d le (rw is lt))) found
 
 clear_strict : (from until : ℕ) (r : Frames) (xs : List Frames) (k : ℕ) (d : Frames) → RiseApart from xs until → 1 ≤ r.len → is_clear r xs ≡ true → k < length xs → r.lo ≤ (slice_index_or xs k d).lo → r.lo < (slice_index_or xs k d).lo
 clear_strict from until r [] k d h some clear lt le = absurd (omega arith)
@@ -186,30 +139,3 @@ is_clear-append r (x ∷ xs) ys clear =
     let parts = and_parts (not (meets r x)) (is_clear r (xs ++ ys)) clear in
     let rest = is_clear-append r xs ys parts.1 in
     (and_from (not (meets r x)) (is_clear r xs) parts.0 rest.0, rest.1)
-
-pub is_clear-insert : (w r : Frames) (xs : List Frames) → not (meets w r) ≡ true → is_clear w xs ≡ true → is_clear w (insert_rising r xs) ≡ true
-is_clear-insert w r [] apart clear = and_from (not (meets w r)) true apart refl
-is_clear-insert w r (x ∷ xs) apart clear =
-    let parts = and_parts (not (meets w x)) (is_clear w xs) clear in
-    cond_both (nat_lt r.lo x.lo) (r ∷ x ∷ xs) (x ∷ insert_rising r xs) (λ ys. is_clear w ys ≡ true)
-    (λ e. and_from (not (meets w r)) (is_clear w (x ∷ xs)) apart clear)
-    (λ e. and_from (not (meets w x)) (is_clear w (insert_rising r xs)) parts.0 (is_clear-insert w r xs apart parts.1))
-
-pub is_clear-remove : (w : Frames) (lo : ℕ) (xs : List Frames) → is_clear w xs ≡ true → is_clear w (remove_at lo xs) ≡ true
-is_clear-remove w lo [] clear = refl
-is_clear-remove w lo (x ∷ xs) clear =
-    let parts = and_parts (not (meets w x)) (is_clear w xs) clear in
-    cond_both (begins_at lo x) xs (x ∷ remove_at lo xs) (λ ys. is_clear w ys ≡ true)
-    (λ e. parts.1)
-    (λ e. and_from (not (meets w x)) (is_clear w (remove_at lo xs)) parts.0 (is_clear-remove w lo xs parts.1))
-
--- each window stays apart
-pub windows_apart-insert : (r : Frames) (windows xs : List Frames) → is_clear r windows ≡ true → AllByRecursion (λ w. is_clear w xs ≡ true) windows → AllByRecursion (λ w. is_clear w (insert_rising r xs) ≡ true) windows
-windows_apart-insert r [] xs clear all = tt
-windows_apart-insert r (w ∷ ws) xs clear all =
-    let parts = and_parts (not (meets r w)) (is_clear r ws) clear in
-    (is_clear-insert w r xs (ap not (meets_swap w r) ∙ parts.0) all.0, windows_apart-insert r ws xs parts.1 all.1)
-
-pub windows_apart-remove : (lo : ℕ) (windows xs : List Frames) → AllByRecursion (λ w. is_clear w xs ≡ true) windows → AllByRecursion (λ w. is_clear w (remove_at lo xs) ≡ true) windows
-windows_apart-remove lo [] xs all = tt
-windows_apart-remove lo (w ∷ ws) xs all = (is_clear-remove w lo xs all.0, windows_apart-remove lo ws xs all.1)

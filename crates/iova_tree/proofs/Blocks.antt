@@ -1,5 +1,5 @@
 -- The ranges of a block, read from one end to the other.
-use Rattle.std.proofs.Common.{ℕ, zero, suc, ◌≡◌, ◌+◌, ◌-◌, ◌<◌, ◌≤◌, ◌⊎◌, inl, inr, max, min, ◌&&◌, ◌||◌, Bool, true, false, not, cond, List, [], ◌∷◌, ◌++◌, length, take, drop, slice_index_or, slice_set, refl, sym, ap, ◌∙◌, arith, take-append-drop, length-drop}
+use Rattle.std.proofs.Common.{ℕ, zero, suc, ◌≡◌, ◌+◌, ◌-◌, ◌<◌, ◌≤◌, ◌⊎◌, inl, inr, max, min, ◌&&◌, ◌||◌, Bool, true, false, not, cond, List, [], ◌∷◌, ◌++◌, length, take, drop, slice_index_or, refl, sym, ap, ◌∙◌, arith, take-append-drop, length-drop}
 use Rattle.std.specs.Prelude.{nat_lt, nat_le, nat_eq, insert, remove}
 use Rattle.std.specs.List.Sorted.{IsNonDecreasingBy}
 use Rattle.std.proofs.Math.Seq.{take-suc, drop-cons}
@@ -8,14 +8,14 @@ use Rattle.std.proofs.lemmas.Bool.Decides.{nat_tests}
 use Rattle.std.proofs.lemmas.List.{length-take-le, get_or_default, append-nil, drop_all}
 use Rattle.std.proofs.lemmas.List.Edits.{insert_end}
 use Rattle.iova_tree.specs.Room.{room}
-use Rattle.iova_tree.specs.Spans.{Span, end_after, first_lo, room_between, room_after, room_below, with_span, without_span, range_of_span, has_frame, is_taken_between, all_of, inserted_of, IsRisingFrom, Holds, StandsHere}
+use Rattle.iova_tree.specs.Spans.{Span, end_after, first_lo, room_between, room_after, with_span, without_span, range_of_span, has_frame, is_taken_between, all_of, inserted_of, IsRisingFrom, Holds, StandsHere}
 use Rattle.iova_range.specs.Frames.{Frames, covers, meets}
 use Rattle.iova_model.specs.Fit.{is_covered}
 use Rattle.std.specs.List.{list_any}
 use Rattle.iova_tree.specs.declared.search.Wanted.{Wanted}
 use Rattle.iova_tree.specs.Fit.{higher, place, highest_after}
 use Rattle.iova_tree.proofs.Rooms.{room_mono, room-below}
-use Rattle.iova_tree.proofs.Spans.{end_after-middle, room_between-middle, with_span-before, with_span-behind, rising-front, rising-after, rising-without, with_span-front, with_span-later, rising_with, holds_above, rising-back, rising-end, room_after-append}
+use Rattle.iova_tree.proofs.Spans.{end_after-middle, room_between-middle, rising-front, with_span-front, with_span-later, rising_with, holds_above, rising-back, rising-end, room_after-append}
 use Rattle.iova_tree.proofs.Fits.{highest_after-append}
 
 end_after-at : (e : ℕ) (l : List Span) (d : Span) (k : ℕ) → length l ≡ suc k → end_after e l ≡ (slice_index_or l k d).end
@@ -31,10 +31,6 @@ end_after-last e l x some is = sym (end_after-at e l x (length l - 1) (omega ari
 -- the first ranges but one, and that one
 pub end_after-take : (e k : ℕ) (l : List Span) (d : Span) → k < length l → end_after e (take (suc k) l) ≡ (slice_index_or l k d).end
 end_after-take e k l d lt = rw (take-suc l k d lt) (end_after-middle e (take k l) (slice_index_or l k d) [])
-
-room_below-some : (lo : ℕ) (l : List Span) → 0 < length l → room_below lo l ≡ max (room_between l) (room (end_after 0 l) lo)
-room_below-some lo [] some = absurd (omega arith)
-room_below-some lo (x ∷ l) some = refl
 
 -- one more range at the end
 
@@ -139,17 +135,6 @@ room-inside_most f x g p q low high own =
     let b = room_mono (end_after 0 f) (first_lo g) x.end (first_lo g) (omega arith) (omega arith) in
     omega arith
 
--- where the gap around it has less than the most room, it changes nothing
-pub room-inside : (f : List Span) (x : Span) (g : List Span) → 0 < length f → 0 < length g → end_after 0 f ≤ x.lo → x.end ≤ first_lo g → x.lo ≤ x.end → room (end_after 0 f) (first_lo g) < room_between (f ++ g)
-    → room_between (f ++ x ∷ g) ≡ room_between (f ++ g)
-room-inside f x g p q low high own gap =
-    let j = room-joined f g p q in
-    let k = room-joined f (x ∷ g) p (omega arith) in
-    let h = room-first x g q in
-    let a = room_mono (end_after 0 f) (first_lo g) (end_after 0 f) x.lo (omega arith) (omega arith) in
-    let b = room_mono (end_after 0 f) (first_lo g) x.end (first_lo g) (omega arith) (omega arith) in
-    omega arith
-
 -- a part has no more room than the whole
 pub room-front : (f g : List Span) → room_between f ≤ room_between (f ++ g)
 room-front [] g = omega arith
@@ -163,9 +148,6 @@ room-back (x ∷ f) (k ∷ r) = let j = room-joined (x ∷ f) (k ∷ r) (omega a
 
 pub room-take : (at : ℕ) (l : List Span) → room_between (take at l) ≤ room_between l
 room-take at l = rw (take-append-drop at l) at (room-front (take at l) (drop at l))
-
-pub room-drop : (at : ℕ) (l : List Span) → room_between (drop at l) ≤ room_between l
-room-drop at l = rw (take-append-drop at l) at (room-back (take at l) (drop at l))
 
 -- once it is gone there is one gap in place of two
 pub room-outside : (f : List Span) (x : Span) (g : List Span) → 0 < length f → 0 < length g → end_after 0 f ≤ x.lo → x.end ≤ first_lo g → x.lo ≤ x.end

@@ -1,15 +1,15 @@
 -- Links side by side, and the ranges behind them.
-use Rattle.std.proofs.Common.{ℕ, zero, suc, Bool, true, false, cond, ◌≡◌, ◌+◌, ◌-◌, ◌<◌, ◌≤◌, ◌⊎◌, inl, inr, max, min, List, [], ◌∷◌, ◌++◌, length, take, drop, slice_index_or, slice_set, refl, sym, ap, ◌∙◌, arith, take-append-drop, length-append}
+use Rattle.std.proofs.Common.{ℕ, zero, suc, Bool, true, false, cond, ◌≡◌, ◌+◌, ◌-◌, ◌<◌, ◌≤◌, max, min, List, [], ◌∷◌, ◌++◌, length, take, drop, slice_index_or, slice_set, refl, sym, ap, ◌∙◌, arith, take-append-drop, length-append}
 use Rattle.std.specs.Prelude.{nat_lt, nat_eq}
 use Rattle.std.proofs.lemmas.Bool.Decides.{nat_tests}
 use Rattle.std.proofs.lemmas.List.{append-nil}
 use Rattle.std.proofs.Math.Seq.{drop-cons}
 use Rattle.iova_tree.specs.Room.{room}
-use Rattle.iova_tree.specs.Spans.{Span, end_after, first_lo, first_or, room_between, room_after, room_below, with_span, with_replaced, IsRisingFrom, IsBefore, Holds}
+use Rattle.iova_tree.specs.Spans.{Span, end_after, first_lo, room_between, room_after, with_span, with_replaced, IsRisingFrom}
 use Rattle.iova_tree.specs.declared.branch.Link.{Link}
-use Rattle.iova_tree.specs.Branches.{spans_below, IsLinked, AreLinked, AreLinkedBehind, AreAllBelow, LeadsTo}
+use Rattle.iova_tree.specs.Branches.{spans_below, IsLinked, AreLinked, AreLinkedBehind}
 use Rattle.iova_tree.proofs.Rooms.{room_mono}
-use Rattle.iova_tree.proofs.Spans.{end_after-append, end_after-any, end_after-node, rising-front, rising-back, rising-after, rising-end, node-gaps, node-middle, room_between-node, room_after-edge, room_below-edge, edge_after, edge_below}
+use Rattle.iova_tree.proofs.Spans.{end_after-append, end_after-any, rising-end}
 
 -- A list as what lies before a place, what stands there, and what lies behind it.
 
@@ -72,10 +72,6 @@ module _ {N : Type 0} (spans : N → List Span) where
   pub some_links : (l : List (Link N)) → 0 < length (spans_below spans l) → 0 < length l
   some_links [] some = absurd (omega arith)
   some_links (k ∷ l) some = omega arith
-
-  pub none_below : (l : List (Link N)) → AreLinked spans l → spans_below spans l ≡ [] → l ≡ []
-  none_below [] h is = refl
-  none_below (k ∷ l) h is = let s = some_below (k ∷ l) h (omega arith) in absurd (omega (arith, ap length is))
 
   end_linked : (e : ℕ) (k : Link N) → IsLinked (spans k.node) k.first k.end k.room → end_after e (spans k.node) ≡ k.end
   end_linked e k h = end_after-any e 0 (spans k.node) h.some ∙ sym h.end_is

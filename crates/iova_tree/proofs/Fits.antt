@@ -1,5 +1,5 @@
 -- The search between ranges: a search in two parts, what it finds is the greatest fit, and what it skips has no place.
-use Rattle.std.proofs.Common.{◌≡◌, ℕ, ◌+◌, ◌-◌, ◌*◌, ◌/◌, ◌%◌, ◌<◌, ◌≤◌, ◌⊎◌, inl, inr, min, Bool, true, false, not, cond, ltb, List, [], ◌∷◌, ◌++◌, length, Option, Some, None, refl, ap, ◌∙◌, sym, subst, arith}
+use Rattle.std.proofs.Common.{◌≡◌, ℕ, ◌+◌, ◌-◌, ◌*◌, ◌/◌, ◌%◌, ◌<◌, ◌≤◌, ◌⊎◌, inl, inr, min, Bool, true, false, not, cond, ltb, List, [], ◌∷◌, ◌++◌, Option, Some, None, refl, ◌∙◌, sym, subst, arith}
 use Rattle.std.specs.Prelude.{nat_le, nat_lt, ◌&&◌}
 use Rattle.std.specs.Int.{IsPowerOfTwo}
 use Rattle.std.proofs.lemmas.Bool.{ltb-true, ltb-false, and_parts}
@@ -11,9 +11,9 @@ use Rattle.iova_range.proofs.Powers.{align_of-first}
 use Rattle.iova_model.specs.Fit.{Fits, IsBest, is_covered, is_clear}
 use Rattle.iova_model.proofs.Placing.{AreSome, uncovered-clear}
 use Rattle.iova_tree.specs.Room.{room}
-use Rattle.iova_tree.specs.Spans.{Span, range_of_span, all_of, end_after, first_lo, IsRisingFrom, room_after, room_between}
+use Rattle.iova_tree.specs.Spans.{Span, range_of_span, all_of, end_after, IsRisingFrom, room_after, room_between}
 use Rattle.iova_tree.specs.declared.search.Wanted.{Wanted}
-use Rattle.iova_tree.specs.Fit.{IsWanted, higher, place, highest_after, highest_between, place_before, place_behind, highest_free}
+use Rattle.iova_tree.specs.Fit.{IsWanted, higher, place, highest_after, highest_between, highest_free}
 use Rattle.iova_tree.proofs.Rooms.{multiple_le, multiple_is, align_of_pos, room-covers}
 
 -- Two parts.
@@ -26,35 +26,9 @@ pub higher-none : (a : Option ℕ) → higher a None ≡ a
 higher-none (Some s) = refl
 higher-none None = refl
 
-highest_after-middle : (w : Wanted) (e : ℕ) (l : List Span) (k : Span) (r : List Span) → highest_after w e (l ++ k ∷ r) ≡ higher (highest_after w k.end r) (higher (place (end_after e l) (min k.lo w.cap) w) (highest_after w e l))
-highest_after-middle w e [] k r = ap (higher (highest_after w k.end r)) (sym (higher-none _))
-highest_after-middle w e (x ∷ l) k r = rw (highest_after-middle w x.end l k r, higher_assoc (highest_after w k.end r) _ (place e (min x.lo w.cap) w), higher_assoc (place (end_after x.end l) (min k.lo w.cap) w) _ (place e (min x.lo w.cap) w)) refl
-
-pub highest_after-first : (w : Wanted) (e : ℕ) (l : List Span) → highest_after w e l ≡ higher (highest_between w l) (place_before w e l)
-highest_after-first w e [] = refl
-highest_after-first w e (x ∷ l) = refl
-
-pub highest_between-last : (w : Wanted) (l : List Span) (k : Span) (r : List Span) → highest_between w (l ++ k ∷ r) ≡ higher (highest_after w k.end r) (higher (place_behind w l k.lo) (highest_between w l))
-highest_between-last w [] k r = sym (higher-none _)
-highest_between-last w (x ∷ l) k r = highest_after-middle w x.end l k r
-
 pub highest_after-append : (w : Wanted) (e : ℕ) (l r : List Span) → highest_after w e (l ++ r) ≡ higher (highest_after w (end_after e l) r) (highest_after w e l)
 highest_after-append w e [] r = sym (higher-none _)
 highest_after-append w e (x ∷ l) r = rw (highest_after-append w x.end l r, higher_assoc (highest_after w (end_after x.end l) r) (highest_after w x.end l) (place e (min x.lo w.cap) w)) refl
-
--- the ranges of a node: those of the lower side, of its own block, which isn't empty, and of the upper side
-pub highest_between-node : (w : Wanted) (l k r : List Span) → 0 < length k
-    → highest_between w (l ++ (k ++ r)) ≡ higher (highest_between w r) (higher (place_before w (end_after 0 k) r) (higher (highest_between w k) (higher (place_behind w l (first_lo k)) (highest_between w l))))
-highest_between-node w l [] r some = absurd (omega arith)
-highest_between-node w l (h ∷ t) r some =
-    let low = higher (place_behind w l h.lo) (highest_between w l) in
-    rw (
-      highest_between-last w l h (t ++ r),
-      highest_after-append w h.end t r,
-      highest_after-first w (end_after h.end t) r,
-      higher_assoc (higher (highest_between w r) (place_before w (end_after h.end t) r)) (highest_after w h.end t) low,
-      higher_assoc (highest_between w r) (place_before w (end_after h.end t) r) (higher (highest_after w h.end t) low),
-    ) refl
 
 -- One gap.
 
@@ -191,11 +165,6 @@ pub highest_after-above_cap : (w : Wanted) (e : ℕ) (l : List Span) → IsWante
 highest_after-above_cap w e [] z r h = refl
 highest_after-above_cap w e (x ∷ l) z r h =
     rw (highest_after-above_cap w x.end l z r.2 (omega (arith, r.0, r.1)), no_place_low w e (min x.lo w.cap) _ (place_greatest w e (min x.lo w.cap) (wanted_align w z)) z.some (omega arith)) refl
-
--- nor where the lowest range begins at the cap or above
-pub highest_between-above_cap : (w : Wanted) (l : List Span) → IsWanted w → IsRisingFrom 0 l → w.cap ≤ first_lo l → highest_between w l ≡ None
-highest_between-above_cap w [] z r h = refl
-highest_between-above_cap w (x ∷ l) z r h = highest_after-above_cap w x.end l z r.2 (omega (arith, r.1))
 
 -- The greatest fit as the definitions say it.
 

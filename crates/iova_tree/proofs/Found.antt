@@ -1,11 +1,11 @@
 -- The range that a search between ranges takes.
-use Rattle.std.proofs.Common.{◌≡◌, ℕ, ◌+◌, ◌-◌, ◌<◌, ◌≤◌, min, true, List, [], ◌∷◌, ◌++◌, length, slice_index_or, Option, Some, None, refl, sym, ap, ◌∙◌, arith}
+use Rattle.std.proofs.Common.{◌≡◌, ℕ, ◌+◌, ◌-◌, ◌<◌, ◌≤◌, min, true, List, [], ◌∷◌, length, slice_index_or, Option, Some, None, refl, sym, ap, ◌∙◌, arith}
 use Rattle.std.specs.Prelude.{nat_lt, insert}
 use Rattle.std.proofs.lemmas.Bool.Decides.{nat_tests}
 use Rattle.iova_tree.specs.Spans.{Span, IsRisingFrom, with_span, end_after, first_lo, room_after, room_between}
 use Rattle.iova_tree.specs.declared.search.Wanted.{Wanted}
-use Rattle.iova_tree.specs.Fit.{IsWanted, higher, place, highest_after, highest_between, taken}
-use Rattle.iova_tree.proofs.Spans.{with_span-later, rising-end, rising-weaken, length-with}
+use Rattle.iova_tree.specs.Fit.{IsWanted, higher, place, highest_after, taken}
+use Rattle.iova_tree.proofs.Spans.{with_span-later, rising-end, rising-weaken}
 use Rattle.std.proofs.lemmas.List.{get_or_default}
 use Rattle.iova_tree.proofs.Rooms.{room_mono}
 use Rattle.iova_tree.proofs.Blocks.{with_span-at, rising_sorted, own_at}
@@ -63,21 +63,6 @@ pub record ComesBetween (w : Wanted) (s : ℕ) (l : List Span) : Type 0 where
   pub below : s < end_after 0 l
   pub cap : s + w.size ≤ w.cap
   pub room : room_between (with_span (taken w s) l) ≤ room_between l
-
-pub comes_between : (w : Wanted) (l : List Span) (s : ℕ) → IsWanted w → IsRisingFrom 0 l → highest_between w l ≡ Some s → ComesBetween w s l
-comes_between w [] s h r is = absurd cc
-comes_between w (x ∷ l) s h r is =
-    let i = comes_in w x.end l s h r.2 is in
-    let later = with_span-later (taken w s) x l (omega (arith, i.low, r.1)) in
-    record {
-      rising = rw later (r.0, r.1, i.rising);
-      same_first = rw later refl;
-      same_end = rw later i.same_end;
-      above = λ e t. omega (arith, t.0, t.1, i.low);
-      below = i.high;
-      cap = i.cap;
-      room = rw later i.room;
-    }
 
 -- the place where it comes in
 goes_at : (x : Span) (l : List Span) (at : ℕ) (y z : Span) → IsRisingFrom 0 l → IsRisingFrom 0 (with_span x l) → 1 ≤ at → at < length l → y ≡ slice_index_or l (at - 1) y → z ≡ slice_index_or l at z → y.end ≤ x.lo → x.lo ≤ z.lo

@@ -1,5 +1,5 @@
 -- What a tree keeps through its calls, and what these make of its ranges.
-use Rattle.std.proofs.Common.{◌≡◌, ℕ, ◌+◌, ◌-◌, ◌^◌, ◌<◌, ◌≤◌, ◌||◌, Bool, true, false, not, cond, List, [], ◌∷◌, ◌++◌, length, Option, Some, refl, sym, ap, ◌∙◌, subst, arith}
+use Rattle.std.proofs.Common.{◌≡◌, ℕ, ◌+◌, ◌-◌, ◌<◌, ◌≤◌, ◌||◌, Bool, true, false, not, cond, List, [], ◌∷◌, ◌++◌, length, Option, Some, refl, sym, ap, ◌∙◌, subst, arith}
 use Rattle.std.specs.Prelude.{find, IsSome}
 use Rattle.std.specs.List.{list_any}
 use Rattle.std.proofs.lemmas.Bool.{and_parts, and_from}
@@ -13,15 +13,12 @@ use Rattle.iova_tree.specs.Spans.{Span, range_of_span, all_of, windows_of, inser
 use Rattle.iova_tree.specs.Space.{IsTreeKept, IsInside, LieWithin, space_of, ranges_of, clear_of}
 use Rattle.iova_tree.proofs.Spans.{rising-weaken, rising_with}
 use Rattle.iova_tree.proofs.Apart.{LiesWithin, is_clear-append}
-use Rattle.iova_tree.proofs.Allocated.{within_with, within_without, of_kind-with, of_kind-other, taken_kind, kind_taken, holds_kind, length_within, covered_kinds, kept_space}
+use Rattle.iova_tree.proofs.Allocated.{within_with, within_without, of_kind-with, of_kind-other, taken_kind, kind_taken, holds_kind, covered_kinds, kept_space}
 use Rattle.iova_tree.proofs.Unions.{union_within, union_clear_others, union_clear}
 use Rattle.iova_tree.proofs.Windows.{length-insert_rising}
 
 pub frames_span : (r : Frames) (window : Bool) → range_of_span (span_of r window) ≡ r
 frames_span r window = let e : r.lo + r.len - r.lo ≡ r.len = omega arith in rw e refl
-
-pub few_kept : (b : Extent) (l : List Span) (ws : List Frames) → IsTreeKept b l ws → b.last < 2 ^ 40 → length l ≤ 2 ^ 40
-few_kept b l ws h small = let n = length_within b.start (b.last + 1) l h.within in omega (arith, h.bounds.bounds.above_zero)
 
 -- One more.
 

@@ -16,4 +16,6 @@ mod Spaces
 mod Taking
 mod Kept
 mod Takes
+mod Hinted
+mod Bounds
 mod Joined

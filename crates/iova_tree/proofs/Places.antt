@@ -1,18 +1,17 @@
 -- A link at a place is exchanged for another, or taken out.
-use Rattle.std.proofs.Common.{ℕ, zero, suc, ◌≡◌, ◌+◌, ◌-◌, ◌<◌, ◌≤◌, ◌⊎◌, inl, inr, max, min, Bool, true, false, cond, List, [], ◌∷◌, ◌++◌, length, take, drop, slice_index_or, slice_set, refl, sym, ap, subst, ◌∙◌, arith, length-append, take-append-drop}
+use Rattle.std.proofs.Common.{ℕ, zero, suc, ◌≡◌, ◌+◌, ◌-◌, ◌<◌, ◌≤◌, inl, inr, max, Bool, true, false, cond, List, [], ◌∷◌, ◌++◌, length, take, drop, slice_index_or, slice_set, refl, sym, ap, subst, ◌∙◌, arith, length-append, length-set, take-append-drop}
 use Rattle.std.specs.List.Sorted.{IsNonDecreasingBy}
 use Rattle.std.specs.Prelude.{nat_lt, insert, remove}
-use Rattle.std.proofs.lemmas.Bool.Decides.{nat_tests}
-use Rattle.std.proofs.Math.Seq.{drop-cons}
-use Rattle.std.proofs.lemmas.List.{append-nil, length-take-le, get_or_default, drop_all, take_all}
+use Rattle.std.proofs.Math.Seq.{drop-cons, take-suc}
+use Rattle.std.proofs.lemmas.List.{append-nil, length-take-le, drop_all, take_all}
 use Rattle.iova_tree.specs.Room.{room}
-use Rattle.iova_tree.specs.Spans.{Span, end_after, first_lo, room_between, room_after, room_below, with_span, with_replaced, all_of, IsRisingFrom, IsBefore, Holds}
+use Rattle.iova_tree.specs.Spans.{Span, end_after, first_lo, room_between, room_after, with_span, with_replaced, all_of, IsRisingFrom, IsBefore, Holds}
 use Rattle.iova_tree.specs.declared.branch.Link.{Link}
 use Rattle.iova_tree.specs.Branches.{spans_below, IsLinked, AreLinked, AreLinkedBehind, AreAtMost, LeadsTo}
-use Rattle.iova_tree.proofs.Rooms.{room_mono}
-use Rattle.iova_tree.proofs.Spans.{end_after-append, end_after-any, rising-front, rising-back, rising-after, rising-weaken, rising-end, rising_join, rising_with, node-gaps, end_some as end_some_after, first_below_end, room_after-append, node-middle, room_between-node, room_after-edge, room_below-edge, edge_after, edge_below, with_span-here, holds_above, replaced-front, replaced-behind}
+use Rattle.iova_tree.proofs.Rooms.{room_mono, room-nothing}
+use Rattle.iova_tree.proofs.Spans.{end_after-any, rising-front, rising-back, rising-weaken, rising-end, rising_join, node-gaps, end_some as end_some_after, first_below_end, room_after-append, room_between-after, node-middle, room_between-node, room_after-edge, room_below-edge, edge_after, edge_below, with_span-here, holds_above, replaced-front, replaced-behind}
 use Rattle.iova_tree.proofs.Blocks.{room-front, room-back, room-joined}
-use Rattle.iova_tree.proofs.Branches.{parts_at, set_at, take_set, below-append, below_parts, in_parts, joined_parts, behind_later, some_below, first_front, drop_behind, behind_alone, linked_back, room_after-first, IsInParts}
+use Rattle.iova_tree.proofs.Branches.{parts_at, set_at, take_set, index_set, below-append, below_parts, in_parts, joined_parts, behind_later, some_below, first_front, drop_behind, behind_alone, linked_back, room_after-first, IsInParts}
 use Rattle.iova_tree.proofs.Searched.{before_end_low}
 use Rattle.iova_model.specs.Fit.{is_covered}
 use Rattle.iova_tree.proofs.Allocated.{covered_above, covered_before, covered_append, or_none}
@@ -106,6 +105,22 @@ module _ {N : Type 0} (spans : N → List Span) (links : List (Link N)) (at : �
   pub behind_alone_at : AreLinked spans behind
   behind_alone_at = behind_alone spans own.end behind parts_are.high
 
+  -- the links before it and those behind it have no more room
+  pub room_before : (r : ℕ) → room_between (spans_below spans links) ≤ r → room_between (spans_below spans before) ≤ r
+  room_before r le =
+      let m = rw spans_are at le in
+      omega (arith, m, room-front (spans_below spans before) (spans own.node ++ spans_below spans behind))
+
+  pub room_behind : (r : ℕ) → room_between (spans_below spans links) ≤ r → room_between (spans_below spans behind) ≤ r
+  room_behind r le =
+      let m = rw spans_are at le in
+      omega (arith, m, room-back (spans_below spans before) (spans own.node ++ spans_below spans behind), room-back (spans own.node) (spans_below spans behind))
+
+  pub room_from : (r : ℕ) → room_between (spans_below spans links) ≤ r → room_between (spans own.node ++ spans_below spans behind) ≤ r
+  room_from r le =
+      let m = rw spans_are at le in
+      omega (arith, m, room-back (spans_below spans before) (spans own.node ++ spans_below spans behind))
+
   pub own_rises : IsRisingFrom 0 (spans own.node)
   own_rises = node-middle (spans_below spans before) (spans own.node) (spans_below spans behind) rises
 
@@ -169,6 +184,37 @@ module _ {N : Type 0} (spans : N → List Span) (links : List (Link N)) (at : �
       let k = parts_are.own in
       let g = room_grown (spans_below spans before) (spans own.node) (spans n.node) (spans_below spans behind) k.some is.some (rw (is.first_is, k.first_is) at first) (rw (is.end_is, k.end_is) at end) in
       rw (set_spans n, spans_are) (omega (arith, g, is.room_most))
+
+  -- one that begins where it did, with no lower bound: the links up to it
+  module _ (n : Link N) (is : IsLinked (spans n.node) n.first n.end n.room) (first : n.first ≡ own.first) (known : own.room ≤ n.room) where
+    front_is : take (at + 1) (slice_set links at n) ≡ before ++ n ∷ []
+    front_is =
+        let j : at + 1 ≡ suc at = omega arith in
+        let long = length-set links at n in
+        let here = index_set links at n d lt in
+        rw j (take-suc (slice_set links at n) at d (omega (arith, long)) ∙ rw (take_set links at n, here) refl)
+
+    gap_kept : 0 < length before → room (end_after 0 (spans_below spans before)) n.first ≤ n.room
+    gap_kept some = let g = parts_are.gap some in rw first (omega (arith, g, known))
+
+    pub front_linked : AreLinked spans (take (at + 1) (slice_set links at n))
+    front_linked = rw front_is (joined_parts spans before n [] (record { low = parts_are.low; own = is; gap = gap_kept; high = tt }))
+
+    pub front_room : (r now : ℕ) → room_between (spans_below spans links) ≤ r → max r n.room ≤ now → room_between (spans_below spans (take (at + 1) (slice_set links at n))) ≤ now
+    front_room r now le most =
+        let whole = ap (spans_below spans) front_is ∙ below-append spans before (n ∷ []) ∙ ap (λ m. spans_below spans before ++ m) (append-nil (spans n.node)) in
+        let same = ap room_between whole in
+        omega (arith, same, go before refl)
+      where
+        go : (a : List (Link N)) → a ≡ before → room_between (spans_below spans a ++ spans n.node) ≤ now
+        go [] same = omega (arith, is.room_most, most)
+        go (x ∷ a) same =
+            let long : 0 < length before = rw (← same) (omega arith) in
+            let some = some_below spans before parts_are.low long in
+            let j = room-joined (spans_below spans before) (spans n.node) some is.some in
+            let g = rw is.first_is at (gap_kept long) in
+            let all = ap (λ b. room_between (spans_below spans b ++ spans n.node)) same in
+            omega (arith, all, j, g, is.room_most, most, room_before r le)
 
 -- A link whose bound is raised.
 
@@ -263,6 +309,16 @@ drop_less (x ∷ l) (suc at) =
     let j : suc at + 1 ≡ suc (at + 1) = omega arith in
     rw j (drop_less l at)
 
+-- a link with the same ranges in a place: those up to there have the same
+pub set_low : {N : Type 0} (spans : N → List Span) (links : List (Link N)) (at : ℕ) (d n : Link N) → at < length links → spans n.node ≡ spans (slice_index_or links at d).node
+    → spans_below spans (take (at + 1) (slice_set links at n)) ≡ spans_below spans (take (at + 1) links)
+set_low spans [] at d n lt same = absurd (omega arith)
+set_low spans (x ∷ []) zero d n lt same = rw same refl
+set_low spans (x ∷ (y ∷ l)) zero d n lt same = rw same refl
+set_low spans (x ∷ l) (suc at) d n lt same =
+    let j : suc at + 1 ≡ suc (at + 1) = omega arith in
+    rw j (ap (λ m. spans x.node ++ m) (set_low spans l at d n (omega arith) same))
+
 -- Which link leads to a frame.
 
 module _ {N : Type 0} (spans : N → List Span) where
@@ -348,6 +404,13 @@ module _ {N : Type 0} (spans : N → List Span) where
       let gap = rw h.0.first_is at own in
       omega (arith, a, f, i, gap, h.0.room_most)
 
+  pub most_between : (top : ℕ) (l : List (Link N)) → AreLinked spans l → AreAtMost top l → room_between (spans_below spans l) ≤ top
+  most_between top [] h most = omega arith
+  most_between top (k ∷ l) h most =
+      let none = room-nothing k.first k.first (omega arith) in
+      let all = most_linked k.first top k l h (omega (arith, none, most.0)) most.1 in
+      omega (arith, all, room_between-after k.first (spans k.node ++ spans_below spans l))
+
 -- A range is gone from behind a link.
 
 pub take_front : {A : Type 0} (at : ℕ) (a b : List A) → length a ≡ at → take at (a ++ b) ≡ a
@@ -391,15 +454,10 @@ module _ {N : Type 0} (spans : N → List Span) (links : List (Link N)) (at : �
   gone_taken = (set_without spans links at d lt linked rising x leads_x n is).1
 
   pub room_left : (r : ℕ) → room_between (spans_below spans links) ≤ r → room_between (spans_below spans left) ≤ r
-  room_left r le =
-      let m = rw (spans_are spans links at d lt linked rising) at le in
-      omega (arith, m, room-front (spans_below spans left) (spans (slice_index_or links at d).node ++ spans_below spans right))
+  room_left r le = room_before spans links at d lt linked rising r le
 
   pub room_right : (r : ℕ) → room_between (spans_below spans links) ≤ r → room_between (spans_below spans right) ≤ r
-  room_right r le =
-      let m = rw (spans_are spans links at d lt linked rising) at le in
-      let own = spans (slice_index_or links at d).node in
-      omega (arith, m, room-back (spans_below spans left) (own ++ spans_below spans right), room-back own (spans_below spans right))
+  room_right r le = room_behind spans links at d lt linked rising r le
 
   -- where its node has no other
   module _ (none : spans n.node ≡ []) where
@@ -434,16 +492,25 @@ module _ {N : Type 0} (spans : N → List Span) (links : List (Link N)) (at : �
   abbrev whole_link : Link N
   whole_link = slice_index_or links at d
 
-  pub cut_linked : (low high : Link N) → IsLinked (spans low.node) low.first low.end low.room → IsLinked (spans high.node) high.first high.end high.room → low.first ≡ whole_link.first → low.room ≡ whole_link.room
-      → high.end ≡ whole_link.end → room low.end high.first ≤ high.room → AreLinked spans (insert (slice_set links at low) (at + 1) high)
-  cut_linked low high p q first most end gap =
-      let i = parts_are spans links at d lt linked rising in
-      rw (insert_set links at low high lt) (joined_parts spans (take at links) low (high ∷ drop (at + 1) links) (record {
-        low = i.low;
-        own = p;
-        gap = λ some. (let g = i.gap some in rw (first, most) g);
-        high = (q, gap, rw end i.high);
-      }))
+  pub cut_low : (low high : Link N) → AreLinked spans (take at (insert (slice_set links at low) (at + 1) high))
+  cut_low low high =
+      let front = take_front at (take at links) (low ∷ (high ∷ drop (at + 1) links)) (length-take-le at links (omega arith)) in
+      rw (insert_set links at low high lt, front) (parts_are spans links at d lt linked rising).low
+
+  cut_behind : (low high : Link N) → drop (at + 1) (insert (slice_set links at low) (at + 1) high) ≡ high ∷ drop (at + 1) links
+  cut_behind low high = ap (drop (at + 1)) (insert_set links at low high lt) ∙ behind_front at (take at links) low (high ∷ drop (at + 1) links) (length-take-le at links (omega arith))
+    where
+      behind_front : {A : Type 0} (k : ℕ) (m : List A) (y : A) (r : List A) → length m ≡ k → drop (k + 1) (m ++ y ∷ r) ≡ r
+      behind_front zero [] y [] is = refl
+      behind_front zero [] y (z ∷ r) is = refl
+      behind_front zero (x ∷ m) y r is = absurd (omega arith)
+      behind_front (suc k) [] y r is = absurd (omega arith)
+      behind_front (suc k) (x ∷ m) y r is =
+          let j : suc k + 1 ≡ suc (k + 1) = omega arith in
+          rw j (behind_front k m y r (omega arith))
+
+  pub cut_high : (low high : Link N) → IsLinked (spans high.node) high.first high.end high.room → high.end ≡ whole_link.end → AreLinked spans (drop (at + 1) (insert (slice_set links at low) (at + 1) high))
+  cut_high low high is end = rw (cut_behind low high) (is, rw end (parts_are spans links at d lt linked rising).high)
 
   pub cut_same : (low high : Link N) → spans whole_link.node ≡ spans low.node ++ spans high.node → spans_below spans (insert (slice_set links at low) (at + 1) high) ≡ spans_below spans links
   cut_same low high is =

@@ -1,24 +1,20 @@
 -- The highest place behind links, once those that are too short for it are passed over.
-use Rattle.std.proofs.Common.{ℕ, zero, suc, Bool, true, false, ◌≡◌, ◌+◌, ◌-◌, ◌<◌, ◌≤◌, max, min, List, [], ◌∷◌, ◌++◌, length, take, drop, slice_index_or, slice_set, Option, Some, None, refl, sym, ap, subst, ◌∙◌, arith, take-append-drop}
-use Rattle.std.specs.Prelude.{◌==◌}
+use Rattle.std.proofs.Common.{ℕ, zero, suc, ◌≡◌, ◌+◌, ◌-◌, ◌<◌, ◌≤◌, List, [], ◌∷◌, ◌++◌, length, take, drop, slice_index_or, slice_set, Option, Some, None, refl, sym, ap, subst, ◌∙◌, arith, take-append-drop}
 use Rattle.std.proofs.lemmas.List.{append-nil, length-take-le, get_or_default}
 use Rattle.iova_tree.specs.Room.{room}
-use Rattle.iova_tree.specs.Spans.{Span, end_after, first_lo, room_between, room_after, with_span, IsRisingFrom, IsBefore}
+use Rattle.iova_tree.specs.Spans.{Span, end_after, first_lo, room_between, room_after, with_span, IsRisingFrom}
 use Rattle.iova_tree.specs.declared.branch.Link.{Link}
 use Rattle.iova_tree.specs.declared.search.Wanted.{Wanted}
 use Rattle.iova_tree.specs.declared.search.Found.{Found}
 use Rattle.iova_tree.specs.declared.search.Found.TheVariants.{Nowhere, At, Taken}
-use Rattle.iova_tree.specs.Fit.{IsWanted, IsFound, higher, highest_after, highest_between, taken}
-use Rattle.iova_tree.specs.Branches.{spans_below, IsLinked, AreLinked, AreLinkedBehind, AreAllBelow}
-use Rattle.iova_tree.proofs.Spans.{end_after-append, end_after-any, rising-front, rising-back, rising-weaken, rising-end, with_span-before, with_span-here, before_all}
-use Rattle.iova_tree.proofs.Fits.{highest_after-append, highest_after-no_room, higher-none, no_place_low, place_greatest, wanted_align}
+use Rattle.iova_tree.specs.Fit.{IsWanted, IsFound, higher, highest_after, taken}
+use Rattle.iova_tree.specs.Branches.{spans_below, IsLinked, AreLinked, AreLinkedBehind, AreAllBelow, highest_behind}
+use Rattle.std.proofs.Math.Seq.{take-suc, drop-cons}
+use Rattle.iova_tree.proofs.Spans.{end_after-any, rising-front, rising-back, rising-weaken, rising_join, with_span-here, before_all}
+use Rattle.iova_tree.proofs.Fits.{highest_after-append, highest_after-no_room}
 use Rattle.iova_tree.proofs.Rooms.{room-nothing}
 use Rattle.iova_tree.proofs.Found.{comes_in}
 use Rattle.iova_tree.proofs.Branches.{parts_at, set_at, room_after-first, below-append, below_parts, in_parts, joined_parts, linked_front, end_last, some_below}
-
-pub not_empty : (n : ℕ) → false ≡ (n == 0) → 0 < n
-not_empty zero is = absurd cc
-not_empty (suc n) is = omega arith
 
 -- the first places of a list
 pub index_take : {A : Type 0} (l : List A) (at k : ℕ) (d : A) → k < at → slice_index_or (take at l) k d ≡ slice_index_or l k d
@@ -93,39 +89,6 @@ module _ {N : Type 0} (spans : N → List Span) (w : Wanted) (h : IsWanted w) wh
     pub same_own : (n : Link N) → spans n.node ≡ own → spans_below spans (a ++ n ∷ b) ≡ spans_below spans (a ++ k ∷ b)
     same_own n is = rw (below_parts spans a n b, is, parts) refl
 
-    -- the links before it are exchanged for some with this range more
-    pub taken_low : (m : List (Link N)) (n : Link N) (lo : ℕ) → highest_after w from low ≡ Some lo → spans n.node ≡ own → spans_below spans m ≡ with_span (taken w lo) low
-        → spans_below spans (m ++ n ∷ b) ≡ with_span (taken w lo) (spans_below spans (a ++ k ∷ b))
-    taken_low m n lo found same is =
-        let i = comes_in w from low lo h rising_low found in
-        rw (below_parts spans m n b, is, same, parts) (sym (with_span-before (taken w lo) low (own ++ high) (before_all (end_after from low) (taken w lo) (own ++ high) i.high (rising-back from low (own ++ high) rises))))
-
-    pub found_own : AreAllBelow w.size b → (n : Link N) (o : Found) → (o ≡ Nowhere → ⊥) → IsFound (highest_after w (end_after from low) own) (spans n.node ≡ own) (λ lo. spans n.node ≡ with_span (taken w lo) own) o
-        → IsFound (highest_after w from (spans_below spans (a ++ k ∷ b))) (spans_below spans (a ++ n ∷ b) ≡ spans_below spans (a ++ k ∷ b)) (λ lo. spans_below spans (a ++ n ∷ b) ≡ with_span (taken w lo) (spans_below spans (a ++ k ∷ b))) o
-    found_own below n Nowhere some f = absurd (some refl)
-    found_own below n (At lo) some f = (rw (whole below, f.0) refl, same_own n f.1)
-    found_own below n (Taken lo) some f = (rw (whole below, f.0) refl, taken_own n lo f.0 f.1)
-
-    pub found_low : AreAllBelow w.size b → (m : List (Link N)) (n : Link N) (o : Found) → highest_after w (end_after from low) own ≡ None → spans n.node ≡ own → IsFound (highest_after w from low) (spans_below spans m ≡ low) (λ lo. spans_below spans m ≡ with_span (taken w lo) low) o
-        → IsFound (highest_after w from (spans_below spans (a ++ k ∷ b))) (spans_below spans (m ++ n ∷ b) ≡ spans_below spans (a ++ k ∷ b)) (λ lo. spans_below spans (m ++ n ∷ b) ≡ with_span (taken w lo) (spans_below spans (a ++ k ∷ b))) o
-    found_low below m n Nowhere none same f = (rw (whole below, none) f.0, rw (below_parts spans m n b, f.1, same, parts) refl)
-    found_low below m n (At lo) none same f = (rw (whole below, none) f.0, rw (below_parts spans m n b, f.1, same, parts) refl)
-    found_low below m n (Taken lo) none same f = (rw (whole below, none) f.0, taken_low m n lo f.0 same f.1)
-
-  -- the first of the links alone
-  pub found_first : (from : ℕ) (k n : Link N) (b : List (Link N)) (o : Found) → AreLinked spans (k ∷ b) → IsRisingFrom from (spans_below spans (k ∷ b)) → AreAllBelow w.size b
-      → IsFound (highest_after w from (spans k.node)) (spans n.node ≡ spans k.node) (λ lo. spans n.node ≡ with_span (taken w lo) (spans k.node)) o
-      → IsFound (highest_after w from (spans_below spans (k ∷ b))) (spans_below spans (n ∷ b) ≡ spans_below spans (k ∷ b)) (λ lo. spans_below spans (n ∷ b) ≡ with_span (taken w lo) (spans_below spans (k ∷ b))) o
-  found_first from k n b Nowhere linked rising below f = (rw (whole from [] k b linked rising below, f.0) refl, rw f.1 refl)
-  found_first from k n b (At lo) linked rising below f = (rw (whole from [] k b linked rising below, f.0) refl, rw f.1 refl)
-  found_first from k n b (Taken lo) linked rising below f = (rw (whole from [] k b linked rising below, f.0) refl, taken_own from [] k b linked rising n lo f.0 f.1)
-
-  pub set_first : (from : ℕ) (links : List (Link N)) (d n : Link N) (o : Found) → 0 < length links → AreLinked spans links → IsRisingFrom from (spans_below spans links) → AreAllBelow w.size (drop 1 links)
-      → IsFound (highest_after w from (spans (slice_index_or links 0 d).node)) (spans n.node ≡ spans (slice_index_or links 0 d).node) (λ lo. spans n.node ≡ with_span (taken w lo) (spans (slice_index_or links 0 d).node)) o
-      → IsFound (highest_after w from (spans_below spans links)) (spans_below spans (slice_set links 0 n) ≡ spans_below spans links) (λ lo. spans_below spans (slice_set links 0 n) ≡ with_span (taken w lo) (spans_below spans links)) o
-  set_first from [] d n o some linked rising below f = absurd (omega arith)
-  set_first from (k ∷ b) d n o some linked rising below f = found_first from k n b o linked rising below f
-
 -- The link at a place.
 
 pub before_end_low : {N : Type 0} (spans : N → List Span) (from : ℕ) (links : List (Link N)) (at : ℕ) (d : Link N) → AreLinked spans (take at links) → 1 ≤ at → at < length links
@@ -179,6 +142,51 @@ module _ {N : Type 0} (spans : N → List Span) (w : Wanted) (h : IsWanted w) (f
       let g = (in_parts spans before_at link_at behind_at linked_here).gap (omega (arith, n)) in
       rw e g
 
+  -- the highest place behind the links up to this one
+  pub front_whole : highest_after w from (spans_below spans (take (suc at) links)) ≡ higher (highest_after w (end_after from (spans_below spans before_at)) (spans link_at.node)) (highest_after w from (spans_below spans before_at))
+  front_whole =
+      let parts = below-append spans before_at (link_at ∷ []) in
+      rw (take-suc links at d lt, parts, append-nil (spans link_at.node)) (highest_after-append w from (spans_below spans before_at) (spans link_at.node))
+
+  pub own_is : spans_below spans (take 1 (drop at links)) ≡ spans link_at.node
+  own_is = rw (drop-cons links at d lt) (append-nil (spans link_at.node))
+
+  -- where it isn't the first, the place behind this link alone
+  pub behind_is : 1 ≤ at → highest_behind spans w at links ≡ highest_after w (end_after from (spans_below spans before_at)) (spans link_at.node)
+  behind_is some =
+      let n : length before_at ≡ at = length-take-le at links (omega arith) in
+      let e = end_after-any from 0 (spans_below spans before_at) (some_below spans before_at low_linked (omega (arith, n))) in
+      rw (own_is, e) refl
+
+  pub set_rises : (n : Link N) (lo : ℕ) → highest_after w (end_after from (spans_below spans before_at)) (spans link_at.node) ≡ Some lo → spans n.node ≡ with_span (taken w lo) (spans link_at.node) → IsRisingFrom from (spans_below spans (slice_set links at n))
+  set_rises n lo found is =
+      let low = spans_below spans before_at in
+      let high = spans_below spans behind_at in
+      let e = end_after from low in
+      let i = comes_in w e (spans link_at.node) lo h at_rising found in
+      let old = rw (below_parts spans before_at link_at behind_at) at rising_here in
+      let above = rising-back e (spans link_at.node) high (rising-back from low (spans link_at.node ++ high) old) in
+      let own = rising_join e (with_span (taken w lo) (spans link_at.node)) high i.rising (rw i.same_end above) in
+      rw (set_at links at n lt, below_parts spans before_at n behind_at, is) (rising_join from low (with_span (taken w lo) (spans link_at.node) ++ high) low_rising own)
+
+  -- another link in its place, with this range more or not
+  pub set_own : (n : Link N) (highest : Option ℕ) (o : Found) → highest ≡ highest_after w (end_after from (spans_below spans before_at)) (spans link_at.node)
+      → IsFound (highest_after w (end_after from (spans_below spans before_at)) (spans link_at.node)) (spans n.node ≡ spans link_at.node) (λ lo. spans n.node ≡ with_span (taken w lo) (spans link_at.node)) o
+      → IsFound highest (spans_below spans (slice_set links at n) ≡ spans_below spans links) (λ lo. spans_below spans (slice_set links at n) ≡ with_span (taken w lo) (spans_below spans links)) o
+  set_own n highest o is f = go o f
+    where
+      old : spans_below spans links ≡ spans_below spans (before_at ++ link_at ∷ behind_at)
+      old = ap (spans_below spans) parts_here
+
+      new : spans_below spans (slice_set links at n) ≡ spans_below spans (before_at ++ n ∷ behind_at)
+      new = ap (spans_below spans) (set_at links at n lt)
+
+      go : (o : Found) → IsFound (highest_after w (end_after from (spans_below spans before_at)) (spans link_at.node)) (spans n.node ≡ spans link_at.node) (λ lo. spans n.node ≡ with_span (taken w lo) (spans link_at.node)) o
+          → IsFound highest (spans_below spans (slice_set links at n) ≡ spans_below spans links) (λ lo. spans_below spans (slice_set links at n) ≡ with_span (taken w lo) (spans_below spans links)) o
+      go Nowhere f = (is ∙ f.0, new ∙ same_own spans w h from before_at link_at behind_at linked_here rising_here n f.1 ∙ sym old)
+      go (At lo) f = (is ∙ f.0, new ∙ same_own spans w h from before_at link_at behind_at linked_here rising_here n f.1 ∙ sym old)
+      go (Taken lo) f = (is ∙ f.0, new ∙ taken_own spans w h from before_at link_at behind_at linked_here rising_here n lo f.0 f.1 ∙ ap (with_span (taken w lo)) (sym old))
+
   pub at_whole : AreAllBelow w.size behind_at → highest_after w from (spans_below spans links) ≡ higher (highest_after w (end_after from (spans_below spans before_at)) (spans link_at.node)) (highest_after w from (spans_below spans before_at))
   at_whole below = subst (λ l. highest_after w from (spans_below spans l) ≡ higher (highest_after w (end_after from (spans_below spans before_at)) (spans link_at.node)) (highest_after w from (spans_below spans before_at))) (sym parts_here) (whole spans w h from before_at link_at behind_at linked_here rising_here below)
 
@@ -194,32 +202,30 @@ module _ {N : Type 0} (spans : N → List Span) (w : Wanted) (h : IsWanted w) (f
         high = rw end i.high;
       }))
 
-  pub set_found : AreAllBelow w.size behind_at → (n : Link N) (o : Found) → (o ≡ Nowhere → ⊥) → IsFound (highest_after w (end_after from (spans_below spans before_at)) (spans link_at.node)) (spans n.node ≡ spans link_at.node) (λ lo. spans n.node ≡ with_span (taken w lo) (spans link_at.node)) o
-      → IsFound (highest_after w from (spans_below spans links)) (spans_below spans (slice_set links at n) ≡ spans_below spans links) (λ lo. spans_below spans (slice_set links at n) ≡ with_span (taken w lo) (spans_below spans links)) o
-  set_found below n o some f =
-      let r = found_own spans w h from before_at link_at behind_at linked_here rising_here below n o some f in
-      rw (set_at links at n lt) (subst (λ l. IsFound (highest_after w from (spans_below spans l)) (spans_below spans (before_at ++ n ∷ behind_at) ≡ spans_below spans l) (λ lo. spans_below spans (before_at ++ n ∷ behind_at) ≡ with_span (taken w lo) (spans_below spans l)) o) (sym parts_here) r)
+module _ {N : Type 0} (spans : N → List Span) (w : Wanted) (h : IsWanted w) (from : ℕ) where
+  -- nothing fits behind this link
+  pub start_whole : (links : List (Link N)) (at : ℕ) → at < length links → AreLinked spans links → IsRisingFrom from (spans_below spans links) → AreAllBelow w.size (drop (at + 1) links)
+      → highest_after w from (spans_below spans links) ≡ highest_after w from (spans_below spans (take (suc at) links))
+  start_whole [] at lt linked rising below = absurd (omega arith)
+  start_whole (k ∷ l) at lt linked rising below = at_whole spans w h from (k ∷ l) at k lt linked rising below ∙ sym (front_whole spans w h from (k ∷ l) at k lt linked rising)
 
-  -- where nothing was found there, what was found before it is what is sought
-  pub set_low : AreAllBelow w.size behind_at → (n : Link N) (m : List (Link N)) (o : Found) → highest_after w (end_after from (spans_below spans before_at)) (spans link_at.node) ≡ None → spans n.node ≡ spans link_at.node
-      → IsFound (highest_after w from (spans_below spans before_at)) (spans_below spans m ≡ spans_below spans before_at) (λ lo. spans_below spans m ≡ with_span (taken w lo) (spans_below spans before_at)) o
-      → IsFound (highest_after w from (spans_below spans links)) (spans_below spans (m ++ n ∷ behind_at) ≡ spans_below spans links) (λ lo. spans_below spans (m ++ n ∷ behind_at) ≡ with_span (taken w lo) (spans_below spans links)) o
-  set_low below n m o none same f =
-      let r = found_low spans w h from before_at link_at behind_at linked_here rising_here below m n o none same f in
-      subst (λ l. IsFound (highest_after w from (spans_below spans l)) (spans_below spans (m ++ n ∷ behind_at) ≡ spans_below spans l) (λ lo. spans_below spans (m ++ n ∷ behind_at) ≡ with_span (taken w lo) (spans_below spans l)) o) (sym parts_here) r
+  -- the place behind this link, or one behind those before it
+  pub front_behind : (links : List (Link N)) (at : ℕ) → at < length links → AreLinked spans links → IsRisingFrom from (spans_below spans links) → 1 ≤ at
+      → highest_after w from (spans_below spans (take (suc at) links)) ≡ higher (highest_behind spans w at links) (highest_after w from (spans_below spans (take at links)))
+  front_behind [] at lt linked rising some = absurd (omega arith)
+  front_behind (k ∷ l) at lt linked rising some = front_whole spans w h from (k ∷ l) at k lt linked rising ∙ rw (behind_is spans w h from (k ∷ l) at k lt linked rising some) refl
 
-  -- in front of this link lie these links, which end where those before did
-  pub low_set : (n : Link N) (m : List (Link N)) → AreLinked spans m → IsLinked (spans n.node) n.first n.end n.room → (0 < length m → room (end_after 0 (spans_below spans m)) n.first ≤ n.room) → n.end ≡ link_at.end → AreLinked spans (m ++ n ∷ behind_at)
-  low_set n m low own gap end =
-      let i = in_parts spans before_at link_at behind_at linked_here in
-      joined_parts spans m n behind_at (record { low = low; own = own; gap = gap; high = rw end i.high })
+-- what was found behind a link is what is sought, where nothing is found behind those above it
+pub found_here : (whole own low : Option ℕ) (same : Type 0) (is_taken : ℕ → Type 0) (o : Found) → (o ≡ Nowhere → ⊥) → whole ≡ higher own low → IsFound own same is_taken o → IsFound whole same is_taken o
+found_here whole own low same is_taken Nowhere some is f = absurd (some refl)
+found_here whole own low same is_taken (At lo) some is f = (is ∙ rw f.0 refl, f.1)
+found_here whole own low same is_taken (Taken lo) some is f = (is ∙ rw f.0 refl, f.1)
 
--- where these links end, one range more or not
-pub end_found : {N : Type 0} (spans : N → List Span) (w : Wanted) (h : IsWanted w) (from : ℕ) (a m : List (Link N)) (o : Found) → IsRisingFrom from (spans_below spans a)
-    → IsFound (highest_after w from (spans_below spans a)) (spans_below spans m ≡ spans_below spans a) (λ lo. spans_below spans m ≡ with_span (taken w lo) (spans_below spans a)) o → end_after from (spans_below spans m) ≡ end_after from (spans_below spans a)
-end_found spans w h from a m Nowhere r f = ap (end_after from) f.1
-end_found spans w h from a m (At lo) r f = ap (end_after from) f.1
-end_found spans w h from a m (Taken lo) r f = ap (end_after from) f.1 ∙ (comes_in w from (spans_below spans a) lo h r f.0).same_end
+pub found_as : (a b : Option ℕ) (same other : List Span) (new : List Span) (w : Wanted) (o : Found) → a ≡ b → same ≡ other → IsFound b (new ≡ same) (λ lo. new ≡ with_span (taken w lo) same) o
+    → IsFound a (new ≡ other) (λ lo. new ≡ with_span (taken w lo) other) o
+found_as a b same other new w Nowhere p q f = (p ∙ f.0, f.1 ∙ q)
+found_as a b same other new w (At lo) p q f = (p ∙ f.0, f.1 ∙ q)
+found_as a b same other new w (Taken lo) p q f = (p ∙ f.0, f.1 ∙ ap (with_span (taken w lo)) q)
 
 -- no gap has more room once a range was taken from it
 pub room_found : (w : Wanted) (h : IsWanted w) (from : ℕ) (l m : List Span) (o : Found) → IsRisingFrom from l
@@ -230,19 +236,6 @@ room_found w h from l m (Taken lo) r f = rw f.1 (comes_in w from l lo h r f.0).r
 
 -- Where the first gap begins at the lowest range, only those between neighbours are left.
 
-pub rising_own_from : (e : ℕ) (l : List Span) → IsRisingFrom e l → IsRisingFrom (first_lo l) l
-rising_own_from e [] r = tt
-rising_own_from e (x ∷ l) r = (omega arith, r.1, r.2)
-
-pub after_own : (w : Wanted) (l : List Span) → IsWanted w → 0 < length l → highest_after w (first_lo l) l ≡ highest_between w l
-after_own w [] h some = absurd (omega arith)
-after_own w (x ∷ l) h some =
-    rw (no_place_low w x.lo (min x.lo w.cap) _ (place_greatest w x.lo (min x.lo w.cap) (wanted_align w h)) h.some (omega arith)) (higher-none _)
-
 pub room_own : (l : List Span) → 0 < length l → room_after (first_lo l) l ≡ room_between l
 room_own [] some = absurd (omega arith)
 room_own (x ∷ l) some = let z = room-nothing x.lo x.lo (omega arith) in rw z (omega arith)
-
-pub some_first : (l : List Span) → 0 < length l → IsRisingFrom 1 l → 1 ≤ first_lo l
-some_first [] some r = absurd (omega arith)
-some_first (x ∷ l) some r = r.0

@@ -4,7 +4,7 @@ use Rattle.std.specs.Prelude.{nat_lt, nat_eq}
 use Rattle.std.proofs.lemmas.Bool.Decides.{nat_tests}
 use Rattle.std.proofs.lemmas.Bool.{lt-ltb, le-ltb, ltb-true, ltb-false}
 use Rattle.iova_tree.specs.Room.{room}
-use Rattle.iova_tree.specs.Spans.{Span, end_after, first_lo, first_or, IsRisingFrom, room_after, room_between, room_below, with_span, without_span, with_replaced, Holds, IsBefore}
+use Rattle.iova_tree.specs.Spans.{Span, end_after, first_lo, IsRisingFrom, room_after, room_between, room_below, with_span, without_span, with_replaced, Holds, IsBefore}
 
 pub end_after-append : (e : ℕ) (l r : List Span) → end_after e (l ++ r) ≡ end_after (end_after e l) r
 end_after-append e [] r = refl
@@ -13,10 +13,6 @@ end_after-append e (x ∷ l) r = end_after-append x.end l r
 pub end_after-middle : (e : ℕ) (l : List Span) (k : Span) (r : List Span) → end_after e (l ++ k ∷ r) ≡ end_after k.end r
 end_after-middle e l k r = end_after-append e l (k ∷ r)
 
-pub first_lo-middle : (l : List Span) (k : Span) (r : List Span) → first_lo (l ++ k ∷ r) ≡ first_or k.lo l
-first_lo-middle [] k r = refl
-first_lo-middle (x ∷ l) k r = refl
-
 pub room_after-middle : (e : ℕ) (l : List Span) (k : Span) (r : List Span) → room_after e (l ++ k ∷ r) ≡ max (max (room_after e l) (room (end_after e l) k.lo)) (room_after k.end r)
 room_after-middle e [] k r = omega arith
 room_after-middle e (x ∷ l) k r = let i = room_after-middle x.end l k r in omega arith
@@ -24,10 +20,6 @@ room_after-middle e (x ∷ l) k r = let i = room_after-middle x.end l k r in ome
 pub room_between-middle : (l : List Span) (k : Span) (r : List Span) → room_between (l ++ k ∷ r) ≡ max (room_below k.lo l) (room_after k.end r)
 room_between-middle [] k r = omega arith
 room_between-middle (x ∷ l) k r = room_after-middle x.end l k r
-
-pub room_between-below : (lo : ℕ) (l : List Span) → room_between l ≤ room_below lo l
-room_between-below lo [] = omega arith
-room_between-below lo (x ∷ l) = omega arith
 
 pub room_between-after : (e : ℕ) (l : List Span) → room_between l ≤ room_after e l
 room_between-after e [] = omega arith
@@ -65,12 +57,6 @@ pub room_below-edge : (lo : ℕ) (l : List Span) → room_below lo l ≡ max (ro
 room_below-edge lo [] = omega arith
 room_below-edge lo (x ∷ l) = refl
 
-pub edge_below-same : (lo : ℕ) (l m : List Span) → IsRisingFrom 0 l → IsRisingFrom 0 m → end_after 0 l ≡ end_after 0 m → edge_below lo l ≡ edge_below lo m
-edge_below-same lo [] [] r s q = refl
-edge_below-same lo (x ∷ l) [] r s q = let i = rising-end x.end l r.2 in absurd (omega arith)
-edge_below-same lo [] (x ∷ m) r s q = let i = rising-end x.end m s.2 in absurd (omega arith)
-edge_below-same lo (x ∷ l) (y ∷ m) r s q = rw q refl
-
 abbrev pub edge_after : ℕ → List Span → ℕ
 edge_after e [] = 0
 edge_after e (x ∷ l) = room e x.lo
@@ -78,12 +64,6 @@ edge_after e (x ∷ l) = room e x.lo
 pub room_after-edge : (e : ℕ) (l : List Span) → room_after e l ≡ max (room_between l) (edge_after e l)
 room_after-edge e [] = omega arith
 room_after-edge e (x ∷ l) = omega arith
-
-pub edge_after-same : (e : ℕ) (l m : List Span) → 0 < e → IsRisingFrom e l → IsRisingFrom e m → first_or 0 l ≡ first_or 0 m → edge_after e l ≡ edge_after e m
-edge_after-same e [] [] z r s q = refl
-edge_after-same e (x ∷ l) [] z r s q = absurd (omega arith)
-edge_after-same e [] (x ∷ m) z r s q = absurd (omega arith)
-edge_after-same e (x ∷ l) (y ∷ m) z r s q = rw q refl
 
 without_cases : (e : ℕ) (b : Bool) (x y : Span) (t u : List Span) → (IsRisingFrom y.end u → IsRisingFrom y.end t) → IsRisingFrom e (cond b (x ∷ y ∷ t) (y ∷ u)) → IsRisingFrom e (y ∷ t)
 without_cases e true x y t u i s = rising-weaken e x.end (y ∷ t) (omega (arith, s.0, s.1)) s.2
@@ -151,27 +131,6 @@ room_after-append e (x ∷ l) r = let i = room_after-append x.end l r in omega a
 pub room_between-node : (l k r : List Span) → 0 < length k → room_between (l ++ (k ++ r)) ≡ max (room_below (first_lo k) l) (max (room_between k) (room_after (end_after 0 k) r))
 room_between-node l [] r some = absurd (omega arith)
 room_between-node l (h ∷ t) r some = rw (room_between-middle l h (t ++ r), room_after-append h.end t r) refl
-
-pub first_lo-node : (l k r : List Span) → 0 < length k → first_lo (l ++ (k ++ r)) ≡ first_or (first_lo k) l
-first_lo-node l [] r some = absurd (omega arith)
-first_lo-node l (h ∷ t) r some = first_lo-middle l h (t ++ r)
-
-pub end_after-node : (l k r : List Span) → 0 < length k → end_after 0 (l ++ (k ++ r)) ≡ end_after (end_after 0 k) r
-end_after-node l k r some = rw (end_after-append 0 l (k ++ r), end_after-append (end_after 0 l) k r, end_after-any (end_after 0 l) 0 k some) refl
-
--- what comes in on each side, and in the middle
-pub with_span-left : (x : Span) (l k r : List Span) → 0 < length k → x.lo < first_lo k → with_span x (l ++ (k ++ r)) ≡ with_span x l ++ (k ++ r)
-with_span-left x l [] r some p = absurd (omega arith)
-with_span-left x l (h ∷ t) r some p = with_span-before x l (h ∷ (t ++ r)) p
-
-pub with_span-right : (x : Span) (l k r : List Span) → 0 < length k → end_after 0 k ≤ x.lo → IsRisingFrom 0 (l ++ (k ++ r)) → with_span x (l ++ (k ++ r)) ≡ l ++ (k ++ with_span x r)
-with_span-right x l k r some p s =
-    let b = rising-back 0 l (k ++ r) s in
-    let rk = rising-front (end_after 0 l) k r b in
-    let e = end_after-any (end_after 0 l) 0 k some in
-    let i = rising-end (end_after 0 l) k rk in
-    with_span-behind 0 x l (k ++ r) (rising-front 0 l (k ++ r) s) (omega arith)
-    ∙ ap (λ (z : List Span). l ++ z) (with_span-behind (end_after 0 l) x k r rk (omega arith))
 
 pub with_span-here : (x : Span) (l k r : List Span) → IsRisingFrom 0 (l ++ (k ++ r)) → end_after 0 l ≤ x.lo → IsBefore x r → with_span x (l ++ (k ++ r)) ≡ l ++ (with_span x k ++ r)
 with_span-here x l k r s le before =

@@ -1,5 +1,5 @@
 -- How the walk over the windows takes their ranges out of the tree.
-use Rattle.std.proofs.Common.{◌≡◌, ℕ, ◌+◌, ◌^◌, ◌<◌, ◌≤◌, ◌-◌, zero, suc, true, false, List, [], ◌∷◌, length, Option, Some, None, slice_index_or, refl, sym, ap, ◌∙◌, subst, arith}
+use Rattle.std.proofs.Common.{◌≡◌, ℕ, ◌+◌, ◌<◌, ◌≤◌, ◌-◌, zero, suc, true, false, List, [], ◌∷◌, length, Option, Some, None, slice_index_or, refl, sym, ap, ◌∙◌, subst, arith}
 use Rattle.std.specs.Prelude.{find, remove, IsSome, All}
 use Rattle.std.proofs.lemmas.Bool.Decides.{nat_tests}
 use Rattle.iova_range.specs.Frames.{Frames, join}
@@ -7,7 +7,7 @@ use Rattle.iova_model.specs.Clients.{begins_at, remove_at}
 use Rattle.iova_tree.specs.Spans.{Span, range_of_span, span_of, windows_of, is_kind, with_span, with_replaced, IsRisingFrom, Holds}
 use Rattle.iova_tree.specs.Space.{RiseApart, LieWithin, IsPartOf, IsLeftOf, IsLeftBut, AreTakenBut}
 use Rattle.iova_tree.proofs.Spans.{rising-weaken, rising_with, with_span-cancel, replaced-with, holds_with, one_of}
-use Rattle.iova_tree.proofs.Allocated.{of_kind-other, taken_kind, kind_taken, within_without, kind_rises, holds_kind, length_within}
+use Rattle.iova_tree.proofs.Allocated.{of_kind-other, taken_kind, kind_taken, within_without, kind_rises, holds_kind}
 use Rattle.iova_tree.proofs.Apart.{StandsAt, rise_within}
 
 pub left_first : (old : List Span) (before : List Frames) → before ≡ windows_of old → IsLeftOf old before old

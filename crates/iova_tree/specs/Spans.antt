@@ -1,6 +1,8 @@
 -- Allocated ranges in a row: where they end, whether they rise apart, the room between them.
-use Rattle.std.specs.Prelude.{◌≡◌, ℕ, ◌+◌, ◌-◌, ◌/◌, ◌^◌, ◌<◌, ◌≤◌, ◌⊎◌, max, Bool, true, false, not, nat_lt, nat_le, nat_eq, ◌&&◌, List, [], ◌∷◌, length, slice_index_or, slice_set, remove, if◌then◌else◌}
+use Rattle.std.specs.Prelude.{◌≡◌, ℕ, ◌+◌, ◌-◌, ◌<◌, ◌≤◌, ◌⊎◌, max, Bool, true, false, not, nat_lt, nat_le, nat_eq, ◌&&◌, List, [], ◌∷◌, length, drop, slice_index_or, slice_set, remove, if◌then◌else◌}
 use Rattle.iova_range.specs.Frames.{Frames}
+use Rattle.iova_range.specs.declared.limits.TheConstants.{MAX_FRAMES}
+use Rattle.iova_tree.specs.declared.search.Hint.{Hint}
 use Rattle.iova_tree.specs.Room.{room}
 
 -- the frames from lo on, below end, which are a window or were inserted
@@ -82,6 +84,10 @@ room_between (x ∷ t) = room_after x.end t
 abbrev pub room_below : ℕ → List Span → ℕ
 room_below lo [] = 0
 room_below lo (x ∷ t) = max (room_after x.end t) (room (end_after x.end t) lo)
+
+-- where the hint says something, no gap between the ranges from its place on has more room
+abbrev pub IsHinted : Hint → List Span → Type 0
+IsHinted hint l = hint.above ≤ MAX_FRAMES → room_between (drop hint.at l) ≤ hint.above
 
 -- the ranges with x in its place
 abbrev pub with_span : Span → List Span → List Span

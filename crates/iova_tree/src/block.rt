@@ -1,12 +1,12 @@
 //! Ranges that rise apart, side by side in a block: a leaf of the tree.
-ghost use Rattle.std.specs.Prelude.{take, ◌≡◌, ◌<◌, ◌≤◌, ◌-◌, [], ◌∷◌, ◌++◌, length, true, false, insert, remove, Some, None, IfSome, IfNone};
+ghost use Rattle.std.specs.Prelude.{take, drop, ◌≡◌, ◌+◌, ◌<◌, ◌≤◌, ◌-◌, [], ◌∷◌, ◌++◌, length, true, false, insert, remove, Some, None, IfSome, IfNone};
 ghost use Rattle.iova_tree.specs.Spans.{Span as Seen, first_lo, end_after, room_after, room_between, with_span, has_frame, is_taken_between, IsRisingFrom, Holds, StandsHere};
 ghost use Rattle.std.specs.List.{list_any};
 ghost use Rattle.iova_tree.specs.Fit.{IsWanted, highest_after, taken};
 
 use crate::node::Node;
 use crate::room::{room_above, room_with};
-use crate::search::{Found, Wanted, place_between};
+use crate::search::{Found, Hint, Wanted, place_between};
 use crate::span::Span;
 use std::alloc::{AllocError, Global};
 use std::marker::Model;
@@ -18,15 +18,19 @@ pub const BLOCK: usize = 24;
 #[derive(Drop)]
 pub struct Block {
     spans: Vec<Span>,
+    // where the next search begins
+    hint: Hint,
 }
 
 impl Model for Block {
     ghost use Rattle.std.specs.Prelude.{List};
-    ghost use Rattle.iova_tree.specs.Spans.{Span as Seen};
+    ghost use Rattle.iova_tree.specs.Spans.{Span as Seen, IsHinted};
 
     ghost Value = { List Seen };
 
     ghost view = { λ b. b.spans.items };
+
+    ghost invariant = { λ b. IsHinted b.hint b.spans.items };
 }
 
 impl Node for Block {
@@ -37,7 +41,10 @@ impl Node for Block {
         let Ok(()) = spans.push(span) else {
             unreachable!()
         };
-        Ok(Block { spans })
+        Ok(Block {
+            spans,
+            hint: Hint::none(),
+        })
     }
 
     #[inline]
@@ -61,27 +68,40 @@ impl Node for Block {
         spans[spans.len() - 1].end()
     }
 
+    fn room(&self, most: u32) -> u32 {
+        room_among(&self.spans, most)
+    }
+
     fn highest(&self, from: u64, wanted: &Wanted) -> Option<u64> {
-        match highest_of(&self.spans, from, wanted) {
-            Some((_, lo)) => Some(lo),
-            None => None,
+        if self.spans.is_empty() {
+            return None;
         }
+        let hint = self.hint.start(self.spans.len(), wanted.size);
+        let (found, _) = highest_of(&self.spans, hint, from, wanted);
+        found
     }
 
     fn take(&mut self, from: u64, wanted: &Wanted, room: &mut u32) -> Found {
-        let Some((at, lo)) = highest_of(&self.spans, from, wanted) else {
-            *room = room_of_all(&self.spans, from, *room);
+        if self.spans.is_empty() {
+            return Found::Nowhere;
+        }
+        let start = self.hint.start(self.spans.len(), wanted.size);
+        let (found, hint) = highest_of(&self.spans, start, from, wanted);
+        self.hint = hint;
+        let Some(lo) = found else {
+            *room = room_with_first(&self.spans, from, hint);
             return Found::Nowhere;
         };
         if self.is_full() {
             return Found::At(lo);
         }
-        let is_most = gap_below(&self.spans, from, at) >= *room as u64;
+        let is_most = gap_below(&self.spans, from, hint.at) >= *room as u64;
         let span = Span::new(lo, lo + wanted.size, false);
-        let Ok(()) = self.spans.insert(at, span) else {
+        let Ok(()) = self.spans.insert(hint.at, span) else {
             return Found::At(lo);
         };
-        *room = room_once_taken(&self.spans, from, is_most, *room);
+        self.hint = hint_once_taken(&self.spans, hint);
+        *room = room_once_taken(&self.spans, from, self.hint, is_most, *room);
         Found::Taken(lo)
     }
 
@@ -93,28 +113,36 @@ impl Node for Block {
         let mut high = Vec::with_capacity(alloc, BLOCK)?;
         high.extend_from_slice(&self.spans[keep..])?;
         self.spans.truncate(keep);
-        Ok(Some(Block { spans: high }))
+        self.hint = Hint::none();
+        Ok(Some(Block {
+            spans: high,
+            hint: Hint::none(),
+        }))
     }
 
     fn insert(&mut self, _alloc: Global, span: Span, room: &mut u32) -> Result<(), AllocError> {
         let at = place_of(&self.spans, span.lo());
+        let is_most = gap_below(&self.spans, span.lo(), at) >= *room as u64;
         let known = room_with_one(&self.spans, at, span, *room);
         let Ok(()) = self.spans.insert(at, span) else {
             return Err(AllocError);
         };
-        *room = known;
+        self.hint = Hint::none();
+        *room = room_among_or(&self.spans, is_most, known);
         Ok(())
     }
 
     fn remove(&mut self, lo: u64, room: &mut u32) -> Span {
         let at = place_of(&self.spans, lo);
         *room = room_without(&self.spans, at, *room);
+        self.hint = Hint::none();
         self.spans.remove(at)
     }
 
     fn replace(&mut self, lo: u64, span: Span) {
         let at = place_of(&self.spans, lo);
         self.spans[at] = span;
+        self.hint = Hint::none();
     }
 
     fn covers(&self, frame: u64) -> bool {
@@ -161,6 +189,31 @@ fn room_with_one(spans: &[Span], at: usize, span: Span, known: u32) -> u32
     known
 }
 
+// The most room between two neighbours, which is `most` at most.
+fn room_among(spans: &[Span], most: u32) -> u32
+    requires rising { IsRisingFrom 0 spans.now }
+    requires most { room_between spans.now ≤ most }
+    ensures { room_between spans.now ≤ result }
+{
+    let Some((first, rest)) = spans.split_first() else {
+        return 0;
+    };
+    room_of_all(rest, first.end(), most)
+}
+
+// The most room between two neighbours where they are to be looked at, else `known`.
+#[inline]
+fn room_among_or(spans: &[Span], is_looked_at: bool, known: u32) -> u32
+    requires rising { IsRisingFrom 0 spans.now }
+    requires known { room_between spans.now ≤ known }
+    ensures { room_between spans.now ≤ result }
+{
+    if !is_looked_at {
+        return known;
+    }
+    room_among(spans, known)
+}
+
 // A bound for the room between two neighbours once the range at this place is gone: one gap more
 // than before may have more room, where two were.
 #[inline]
@@ -168,7 +221,8 @@ fn room_without(spans: &[Span], at: usize, known: u32) -> u32
     requires within { at < length spans.now }
     requires known { room_between spans.now ≤ known }
     requires rising { IsRisingFrom 0 spans.now }
-    ensures { room_between (remove spans.now at) ≤ result }
+    ensures room { room_between (remove spans.now at) ≤ result }
+    ensures known { known ≤ result }
 {
     if at == 0 || at + 1 == spans.len() {
         return known;
@@ -202,46 +256,80 @@ fn gap_below(spans: &[Span], from: u64, at: usize) -> u64 {
     spans[at].lo().saturating_sub(end)
 }
 
-// A bound for the room in a gap below one of these and above `from`, which is `known` at most: the
-// least there is where they are to be looked at.
+// What is known once a range has been taken at the hint's place: the gap above it is another one.
 #[inline]
-fn room_once_taken(spans: &[Span], from: u64, is_looked_at: bool, known: u32) -> u32
+fn hint_once_taken(spans: &[Span], hint: Hint) -> Hint
+    requires within { hint.at + 1 < length spans.now }
+    requires rising { IsRisingFrom 0 spans.now }
+    requires hinted { room_between (drop (hint.at + 1) spans.now) ≤ hint.above }
+    ensures at { result.at ≡ hint.at }
+    ensures hinted { room_between (drop hint.at spans.now) ≤ result.above }
+{
+    Hint {
+        at: hint.at,
+        above: room_with(hint.above, spans[hint.at].end(), spans[hint.at + 1].lo()),
+    }
+}
+
+// A bound for the room in a gap below one of these and above `from`, which is `known` at most. Where
+// they are to be looked at, these are the gaps at the hint's place and below.
+#[inline]
+fn room_once_taken(spans: &[Span], from: u64, hint: Hint, is_looked_at: bool, known: u32) -> u32
     requires some { 1 ≤ from }
+    requires within { hint.at < length spans.now }
     requires rising { IsRisingFrom from spans.now }
+    requires hinted { room_between (drop hint.at spans.now) ≤ hint.above }
     requires known { room_after from spans.now ≤ known }
     ensures { room_after from spans.now ≤ result }
 {
-    if is_looked_at {
-        return room_of_all(spans, from, known);
+    if !is_looked_at {
+        return known;
     }
-    known
+    room_of_all(&spans[..hint.at + 1], from, known).max(hint.above)
 }
 
-// The highest place in a gap below one of these and above `from`, and how many of them lie below it.
-fn highest_of(spans: &[Span], from: u64, wanted: &Wanted) -> Option<(usize, u64)>
+// A bound for the room in a gap below one of these and above `from`, where all gaps above the first
+// range were looked at.
+#[inline]
+fn room_with_first(spans: &[Span], from: u64, hint: Hint) -> u32
+    requires some { 1 ≤ from }
+    requires within { 0 < length spans.now }
+    requires rising { IsRisingFrom from spans.now }
+    requires hinted { room_between spans.now ≤ hint.above }
+    ensures { room_after from spans.now ≤ result }
+{
+    room_with(hint.above, from, spans[0].lo())
+}
+
+// The highest place in a gap below one of these and above `from`, and where it lies: above so many
+// of them. Nothing fits above the hint.
+#[inline]
+fn highest_of(spans: &[Span], hint: Hint, from: u64, wanted: &Wanted) -> (Option<u64>, Hint)
+    requires within { hint.at < length spans.now }
+    requires hinted { room_between (drop hint.at spans.now) ≤ hint.above }
+    requires less { hint.above < wanted.now.size }
     requires wanted { IsWanted wanted.now }
     requires rising { IsRisingFrom from spans.now }
-    ensures none { IfNone result (highest_after wanted.now from spans.now ≡ None) }
-    ensures found { IfSome result (λ found.
-        highest_after wanted.now from spans.now ≡ Some found.1) }
-    ensures within { IfSome result (λ found. found.0 < length spans.now) }
-    ensures place { IfSome result (λ found. insert spans.now found.0 (taken wanted.now found.1)
-        ≡ with_span (taken wanted.now found.1) spans.now) }
+    ensures found { highest_after wanted.now from spans.now ≡ result.0 }
+    ensures within { result.1.at < length spans.now }
+    ensures hinted { room_between (drop result.1.at spans.now) ≤ result.1.above }
+    ensures nothing { IfNone result.0 (result.1.at ≡ 0) }
+    ensures place { IfSome result.0 (λ lo. insert spans.now result.1.at (taken wanted.now lo)
+        ≡ with_span (taken wanted.now lo) spans.now) }
 {
-    let mut at = spans.len();
-    while at > 1 {
-        at -= 1;
-        if let Some(lo) = place_between(spans[at - 1].end(), spans[at].lo(), wanted) {
-            return Some((at, lo));
+    let mut at = hint.at;
+    let mut above = hint.above;
+    while at > 0 {
+        let end = spans[at - 1].end();
+        let lo = spans[at].lo();
+        if let Some(place) = place_between(end, lo, wanted) {
+            return (Some(place), Hint { at, above });
         }
+        above = room_with(above, end, lo);
+        at -= 1;
     }
-    if at == 0 {
-        return None;
-    }
-    match place_between(from, spans[0].lo(), wanted) {
-        Some(lo) => Some((0, lo)),
-        None => None,
-    }
+    let found = place_between(from, spans[0].lo(), wanted);
+    (found, Hint { at: 0, above })
 }
 
 // The most room in a gap below one of these and above `from`, which is `most` at most: nothing is

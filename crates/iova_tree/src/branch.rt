@@ -6,18 +6,18 @@ ghost use Rattle.iova_model.specs.Fit.{is_covered};
 ghost use Rattle.iova_tree.specs.Spans.{Span as Seen, first_lo, end_after, room_after, room_between, with_span, with_replaced, all_of, inserted_of, IsRisingFrom, Holds};
 ghost use Rattle.iova_tree.specs.Room.{room as room_in};
 ghost use Rattle.iova_tree.specs.Fit.{IsWanted, IsFound, highest_after, taken};
-ghost use Rattle.iova_tree.specs.Branches.{spans_below, AreLinked, AreAllBelow, AreAtMost, IsLinked, LeadsTo};
+ghost use Rattle.iova_tree.specs.Branches.{spans_below, AreLinked, AreAllBelow, AreAtMost, IsLinked, LeadsTo, AreHinted, KeepBounds, IsSameLink, highest_behind};
 
 use crate::node::Node;
 use crate::room::room_with;
-use crate::search::{Found, Wanted, place_between};
+use crate::search::{Found, Hint, Wanted};
 use crate::span::Span;
 use iova_range::limits::MAX_FRAMES;
 use std::alloc::{AllocError, Global};
 use std::marker::Model;
 
 /// The links of a branch that is full.
-pub const BRANCH: usize = 32;
+pub const BRANCH: usize = 64;
 
 /// The most room that a gap may have.
 pub const MOST_ROOM: u32 = MAX_FRAMES as u32;
@@ -36,18 +36,22 @@ pub struct Link<N> {
 #[derive(Drop)]
 pub struct Branch<N: Node> {
     links: Vec<Link<N>>,
+    // where the next search begins
+    hint: Hint,
+    // the link that led to a range last: a guess
+    last: usize,
 }
 
 impl<N: Node> Model for Branch<N> {
     ghost use Rattle.std.specs.Prelude.{List};
     ghost use Rattle.iova_tree.specs.Spans.{Span as Seen};
-    ghost use Rattle.iova_tree.specs.Branches.{spans_below, AreLinked};
+    ghost use Rattle.iova_tree.specs.Branches.{spans_below, AreLinked, AreHinted};
 
     ghost Value = { List Seen };
 
     ghost view = { λ b. spans_below N.spans b.links.items };
 
-    ghost invariant = { λ b. AreLinked N.spans b.links.items };
+    ghost invariant = { λ b. AreLinked N.spans b.links.items × AreHinted b.hint b.links.items };
 }
 
 impl<N: Node> Branch<N> {
@@ -57,6 +61,8 @@ impl<N: Node> Branch<N> {
     {
         Branch {
             links: Vec::new(alloc),
+            hint: Hint::none(),
+            last: 0,
         }
     }
 }
@@ -67,7 +73,11 @@ impl<N: Node> Node for Branch<N> {
     fn single(alloc: Global, span: Span) -> Result<Self, AllocError> {
         let mut links = Vec::new(alloc);
         begin(&mut links, alloc, span)?;
-        Ok(Branch { links })
+        Ok(Branch {
+            links,
+            hint: Hint::none(),
+            last: 0,
+        })
     }
 
     #[inline]
@@ -91,12 +101,25 @@ impl<N: Node> Node for Branch<N> {
         links[links.len() - 1].end
     }
 
+    fn room(&self, _most: u32) -> u32 {
+        most_room(&self.links, 0)
+    }
+
     fn highest(&self, from: u64, wanted: &Wanted) -> Option<u64> {
-        highest_of(&self.links, from, wanted)
+        if self.links.is_empty() {
+            return None;
+        }
+        let hint = last_with_room(&self.links, self.hint, wanted.size);
+        highest_of(&self.links, hint.at, from, wanted)
     }
 
     fn take(&mut self, from: u64, wanted: &Wanted, room: &mut u32) -> Found {
-        take_renewed(&mut self.links, from, wanted, room)
+        if self.links.is_empty() {
+            return Found::Nowhere;
+        }
+        let hint = last_with_room(&self.links, self.hint, wanted.size);
+        self.hint = hint;
+        take_renewed(&mut self.links, hint.at, from, wanted, room)
     }
 
     fn split(&mut self, _alloc: Global, lo: u64) -> Result<Option<Self>, AllocError> {
@@ -105,29 +128,40 @@ impl<N: Node> Node for Branch<N> {
             return Ok(None);
         }
         let high = self.links.split_off(keep)?;
-        Ok(Some(Branch { links: high }))
+        self.hint = Hint::none();
+        Ok(Some(Branch {
+            links: high,
+            hint: Hint::none(),
+            last: 0,
+        }))
     }
 
     fn insert(&mut self, alloc: Global, span: Span, room: &mut u32) -> Result<(), AllocError> {
         if self.links.is_empty() {
+            self.hint = Hint::none();
             return begin(&mut self.links, alloc, span);
         }
-        let at = open_link_to(&mut self.links, alloc, span.lo())?;
+        let at = open_link_to(&mut self.links, &mut self.hint, self.last, alloc, span.lo())?;
+        self.last = at;
+        self.hint = self.hint.behind(at + 1);
         insert_at(&mut self.links, alloc, at, span, room)
     }
 
     fn remove(&mut self, lo: u64, room: &mut u32) -> Span {
-        let at = link_to(&self.links, lo);
+        let at = link_to(&self.links, self.last, lo);
+        self.last = at;
+        self.hint = self.hint.behind(at + 1);
         remove_at(&mut self.links, at, lo, room)
     }
 
     fn replace(&mut self, lo: u64, span: Span) {
-        let at = link_to(&self.links, lo);
+        let at = link_to(&self.links, self.last, lo);
+        self.hint = Hint::none();
         replace_at(&mut self.links, at, lo, span);
     }
 
     fn covers(&self, frame: u64) -> bool {
-        covers_any(&self.links, frame)
+        covers_any(&self.links, self.last, frame)
     }
 
     fn meets_inserted(&self, lo: u64, end: u64) -> bool {
@@ -154,14 +188,17 @@ impl<N: Node> Link<N> {
 }
 
 // Which of the links leads to the frame: the last one whose ranges begin at it or below, or the
-// first one.
+// first one. `last` is a guess.
 #[inline]
-fn link_to<N: Node>(links: &[Link<N>], frame: u64) -> usize
+fn link_to<N: Node>(links: &[Link<N>], last: usize, frame: u64) -> usize
     requires some { 0 < length links.now }
     requires linked { AreLinked N.spans links.now }
     requires rising { IsRisingFrom 0 (spans_below N.spans links.now) }
     ensures { LeadsTo N.spans frame links.now result }
 {
+    if last < links.len() - 1 && links[last].first <= frame && frame < links[last + 1].first {
+        return last;
+    }
     links
         .partition_point(|link| link.first <= frame)
         .saturating_sub(1)
@@ -186,22 +223,27 @@ fn begin<N: Node>(links: &mut Vec<Link<N>>, alloc: Global, span: Span) -> Result
 #[inline]
 fn open_link_to<N: Node>(
     links: &mut Vec<Link<N>>,
+    hint: &mut Hint,
+    last: usize,
     alloc: Global,
     frame: u64,
 ) -> Result<usize, AllocError>
     requires some { 0 < length links.old.items }
+    requires hinted { AreHinted hint.old links.old.items }
     requires linked { AreLinked N.spans links.old.items }
     requires rising { IsRisingFrom 0 (spans_below N.spans links.old.items) }
     ensures leads { IfOk result (λ at. LeadsTo N.spans frame links.new.items at) }
     ensures linked { AreLinked N.spans links.new.items }
     ensures same { spans_below N.spans links.new.items ≡ spans_below N.spans links.old.items }
+    ensures hinted { AreHinted hint.new links.new.items }
 {
-    let at = link_to(links, frame);
+    let at = link_to(links, last, frame);
     if !links[at].node.is_full() {
         return Ok(at);
     }
+    *hint = Hint::none();
     split_at(links, alloc, at, frame)?;
-    Ok(link_to(links, frame))
+    Ok(link_to(links, at, frame))
 }
 
 // Splits the node behind this link, where it has more than one thing to part.
@@ -225,10 +267,13 @@ fn split_at<N: Node>(
     let Ok(()) = links.insert(at + 1, high) else {
         unreachable!()
     };
+    let mut room = MOST_ROOM;
+    settle(links, at, &mut room);
     Ok(())
 }
 
-// Splits the node behind a link: the upper part has a link of its own then.
+// Splits the node behind a link: the upper part has a link of its own then. The bounds of both are
+// for the room between neighbours alone.
 #[inline]
 fn split_below<N: Node>(
     link: &mut Link<N>,
@@ -242,21 +287,18 @@ fn split_below<N: Node>(
         IsLinked (N.spans high.node) high.first high.end high.room)) }
     ensures cut { IfOk result (λ found. IfSome found (λ high.
         N.spans link.old.node ≡ N.spans link.new.node ++ N.spans high.node)) }
-    ensures none { IfOk result (λ found.
-        IfNone found (N.spans link.new.node ≡ N.spans link.old.node)) }
-    ensures err { OnErr result (N.spans link.new.node ≡ N.spans link.old.node) }
-    ensures low { (link.new.first ≡ link.old.first) × (link.new.room ≡ link.old.room) }
     ensures end { IfOk result (λ found. IfSome found (λ high. high.end ≡ link.old.end)) }
-    ensures gap { IfOk result (λ found. IfSome found (λ high.
-        room_in link.new.end high.first ≤ high.room)) }
-    ensures none_end { IfOk result (λ found. IfNone found (link.new.end ≡ link.old.end)) }
-    ensures err_end { OnErr result (link.new.end ≡ link.old.end) }
+    ensures none { IfOk result (λ found. IfNone found (IsSameLink N.spans link.old link.new)) }
+    ensures err { OnErr result (IsSameLink N.spans link.old link.new) }
 {
     let Some(node) = link.node.split(alloc, lo)? else {
         return Ok(None);
     };
+    let most = link.room;
     link.end = link.node.end();
-    Ok(Some(Link::to(node, link.room)))
+    link.room = link.node.room(most);
+    let room = node.room(most);
+    Ok(Some(Link::to(node, room)))
 }
 
 // Lets a range in behind this link.
@@ -280,10 +322,50 @@ fn insert_at<N: Node>(
     ensures err { OnErr result (spans_below N.spans links.new
         ≡ spans_below N.spans links.old) }
     ensures room { room_between (spans_below N.spans links.new) ≤ room.new }
+    ensures others { drop (at + 2) links.new ≡ drop (at + 2) links.old }
+    ensures count { length links.new ≡ length links.old }
 {
+    let end = links[at].end;
     insert_below(&mut links[at], alloc, span)?;
-    *room = (*room).max(links[at].room);
+    settle(links, at, room);
+    if links[at].end != end {
+        renew_at(links, at, room);
+        renew_at(links, at + 1, room);
+    }
     Ok(())
+}
+
+// Makes the bound of the link at this place the least that is known. The gap below its ranges has
+// become shorter.
+fn renew_at<N: Node>(links: &mut [Link<N>], at: usize, room: &mut u32)
+    requires linked { AreLinked N.spans links.old }
+    requires rising { IsRisingFrom 0 (spans_below N.spans links.old) }
+    requires room { room_between (spans_below N.spans links.old) ≤ room.old }
+    ensures linked { AreLinked N.spans links.new }
+    ensures same { spans_below N.spans links.new ≡ spans_below N.spans links.old }
+    ensures low { spans_below N.spans (take (at + 1) links.new)
+        ≡ spans_below N.spans (take (at + 1) links.old) }
+    ensures room { room_between (spans_below N.spans links.new) ≤ room.new }
+    ensures known { room.old ≤ room.new }
+    ensures others { drop (at + 1) links.new ≡ drop (at + 1) links.old }
+    ensures count { length links.new ≡ length links.old }
+{
+    if at >= links.len() {
+        return;
+    }
+    renew(&mut links[at]);
+    raise_at(links, at, room);
+}
+
+// Makes the bound of a link the least that is known for the room between two neighbours.
+#[inline]
+fn renew<N: Node>(link: &mut Link<N>)
+    requires linked { IsLinked (N.spans link.old.node) link.old.first link.old.end link.old.room }
+    requires rising { IsRisingFrom 0 (N.spans link.old.node) }
+    ensures is { link.new ≡ record link.old { room = link.new.room } }
+    ensures linked { IsLinked (N.spans link.new.node) link.new.first link.new.end link.new.room }
+{
+    link.room = link.node.room(link.room);
 }
 
 // Lets a range in behind a link.
@@ -296,7 +378,7 @@ fn insert_below<N: Node>(link: &mut Link<N>, alloc: Global, span: Span) -> Resul
     ensures err { OnErr result (N.spans link.new.node ≡ N.spans link.old.node) }
     ensures first { link.new.first ≤ link.old.first }
     ensures end { link.old.end ≤ link.new.end }
-    ensures known { link.old.room ≤ link.new.room }
+    ensures known { OnErr result (link.old.room ≤ link.new.room) }
 {
     link.node.insert(alloc, span, &mut link.room)?;
     link.first = link.first.min(span.lo());
@@ -317,11 +399,22 @@ fn remove_at<N: Node>(links: &mut Vec<Link<N>>, at: usize, lo: u64, room: &mut u
     ensures taken { spans_below N.spans links.old.items
         ≡ with_span result (spans_below N.spans links.new.items) }
     ensures room { room_between (spans_below N.spans links.new.items) ≤ room.new }
+    ensures known { room.old ≤ room.new }
+    ensures others { KeepBounds (at + 2) links.old.items links.new.items }
 {
+    let first = links[at].first;
+    let end = links[at].end;
     let gone = remove_below(&mut links[at], lo);
     if links[at].node.is_empty() {
         drop(links.remove(at));
         raise_at(links, at, room);
+        return gone;
+    }
+    if links[at].first == first {
+        *room = (*room).max(links[at].room);
+        if links[at].end != end {
+            raise_at(links, at + 1, room);
+        }
         return gone;
     }
     settle(links, at, room);
@@ -342,6 +435,8 @@ fn settle<N: Node>(links: &mut [Link<N>], at: usize, room: &mut u32)
     ensures linked { AreLinked N.spans links.new }
     ensures same { spans_below N.spans links.new ≡ spans_below N.spans links.old }
     ensures room { room_between (spans_below N.spans links.new) ≤ room.new }
+    ensures known { room.old ≤ room.new }
+    ensures others { drop (at + 2) links.new ≡ drop (at + 2) links.old }
     ensures count { length links.new ≡ length links.old }
 {
     *room = (*room).max(links[at].room);
@@ -360,13 +455,16 @@ fn remove_below<N: Node>(link: &mut Link<N>, lo: u64) -> Span
         → IsLinked (N.spans link.new.node) link.new.first link.new.end link.new.room }
     ensures begins { result.lo ≡ lo }
     ensures taken { N.spans link.old.node ≡ with_span result (N.spans link.new.node) }
+    ensures known { link.old.room ≤ link.new.room }
 {
     let gone = link.node.remove(lo, &mut link.room);
     if link.node.is_empty() {
         return gone;
     }
     link.first = first_without(&link.node, link.first, gone);
-    link.end = end_without(&link.node, link.end, gone);
+    if gone.end() == link.end {
+        link.end = link.node.end();
+    }
     gone
 }
 
@@ -383,20 +481,6 @@ fn first_without<N: Node>(node: &N, first: u64, gone: Span) -> u64
     first
 }
 
-// Where the highest range ends once this one is gone.
-#[inline]
-fn end_without<N: Node>(node: &N, end: u64, gone: Span) -> u64
-    requires some { 0 < length (N.spans node.now) }
-    requires rising { IsRisingFrom 0 (with_span gone (N.spans node.now)) }
-    requires end { end ≡ end_after 0 (with_span gone (N.spans node.now)) }
-    ensures { result ≡ end_after 0 (N.spans node.now) }
-{
-    if gone.end() == end {
-        return node.end();
-    }
-    end
-}
-
 // Makes the bound of the link at this place, where it isn't the first, one for the gap below its
 // ranges too, and `room` no less.
 #[inline]
@@ -409,6 +493,8 @@ fn raise_at<N: Node>(links: &mut [Link<N>], at: usize, room: &mut u32)
     ensures linked { AreLinked N.spans links.new }
     ensures same { spans_below N.spans links.new ≡ spans_below N.spans links.old }
     ensures room { room_between (spans_below N.spans links.new) ≤ room.new }
+    ensures low { spans_below N.spans (take (at + 1) links.new)
+        ≡ spans_below N.spans (take (at + 1) links.old) }
     ensures known { room.old ≤ room.new }
     ensures others { drop (at + 1) links.new ≡ drop (at + 1) links.old }
     ensures count { length links.new ≡ length links.old }
@@ -482,30 +568,39 @@ fn replace_below<N: Node>(link: &mut Link<N>, lo: u64, span: Span)
     link.room = MOST_ROOM;
 }
 
-// The highest place in a gap below one of the ranges and above `from`.
-fn highest_of<N: Node>(links: &[Link<N>], from: u64, wanted: &Wanted) -> Option<u64>
+// The highest place in a gap below one of the ranges and above `from`. Nothing fits behind the link
+// at this place.
+fn highest_of<N: Node>(links: &[Link<N>], at: usize, from: u64, wanted: &Wanted) -> Option<u64>
+    requires within { at < length links.now }
+    requires above { AreAllBelow wanted.now.size (drop (at + 1) links.now) }
     requires wanted { IsWanted wanted.now }
     requires linked { AreLinked N.spans links.now }
     requires rising { IsRisingFrom from (spans_below N.spans links.now) }
     ensures { result ≡ highest_after wanted.now from (spans_below N.spans links.now) }
 {
-    if links.is_empty() {
-        return None;
-    }
-    let at = last_with_room(links, wanted.size);
     if at == 0 {
         return links[0].node.highest(from, wanted);
     }
     if let Some(lo) = links[at].node.highest(links[at - 1].end, wanted) {
         return Some(lo);
     }
-    highest_of(&links[..at], from, wanted)
+    let low = &links[..at];
+    let next = last_with_room(low, Hint::none(), wanted.size);
+    highest_of(low, next.at, from, wanted)
 }
 
 // Takes the highest place in a gap below one of the ranges and above `from`, where its block has
 // room for a range. Where nothing fits, it makes `room` the least bound that is known.
 #[inline]
-fn take_renewed<N: Node>(links: &mut [Link<N>], from: u64, wanted: &Wanted, room: &mut u32) -> Found
+fn take_renewed<N: Node>(
+    links: &mut [Link<N>],
+    at: usize,
+    from: u64,
+    wanted: &Wanted,
+    room: &mut u32,
+) -> Found
+    requires within { at < length links.old }
+    requires above { AreAllBelow wanted.now.size (drop (at + 1) links.old) }
     requires wanted { IsWanted wanted.now }
     requires some { 1 ≤ from }
     requires linked { AreLinked N.spans links.old }
@@ -517,8 +612,9 @@ fn take_renewed<N: Node>(links: &mut [Link<N>], from: u64, wanted: &Wanted, room
         (λ lo. spans_below N.spans links.new
         ≡ with_span (taken wanted.now lo) (spans_below N.spans links.old)) result }
     ensures room { room_after from (spans_below N.spans links.new) ≤ room.new }
+    ensures others { drop (at + 1) links.new ≡ drop (at + 1) links.old }
 {
-    match take_highest(links, from, wanted) {
+    match take_highest(links, at, from, wanted) {
         Found::Nowhere => {}
         found => return found,
     }
@@ -527,8 +623,11 @@ fn take_renewed<N: Node>(links: &mut [Link<N>], from: u64, wanted: &Wanted, room
 }
 
 // Takes the highest place in a gap below one of the ranges and above `from`, where its block has
-// room for a range.
-fn take_highest<N: Node>(links: &mut [Link<N>], from: u64, wanted: &Wanted) -> Found
+// room for a range. Nothing fits behind the link at this place.
+#[inline]
+fn take_highest<N: Node>(links: &mut [Link<N>], start: usize, from: u64, wanted: &Wanted) -> Found
+    requires within { start < length links.old }
+    requires above { AreAllBelow wanted.now.size (drop (start + 1) links.old) }
     requires wanted { IsWanted wanted.now }
     requires some { 1 ≤ from }
     requires linked { AreLinked N.spans links.old }
@@ -538,21 +637,49 @@ fn take_highest<N: Node>(links: &mut [Link<N>], from: u64, wanted: &Wanted) -> F
         (spans_below N.spans links.new ≡ spans_below N.spans links.old)
         (λ lo. spans_below N.spans links.new
         ≡ with_span (taken wanted.now lo) (spans_below N.spans links.old)) result }
+    ensures others { drop (start + 1) links.new ≡ drop (start + 1) links.old }
 {
-    if links.is_empty() {
-        return Found::Nowhere;
+    let mut at = start;
+    while at > 0 {
+        match take_at(links, at, wanted) {
+            Found::Nowhere => {}
+            found => return found,
+        }
+        at -= 1;
     }
-    let at = last_with_room(links, wanted.size);
-    if at == 0 {
-        return take_lowest(&mut links[0], from, wanted);
-    }
+    take_lowest(&mut links[0], from, wanted)
+}
+
+// Takes the highest place in a gap below one of the ranges behind the link at this place, which
+// isn't the first. Where that lies below all of these, the gap above the ranges of the link before
+// has become shorter, and its bound is renewed.
+#[inline]
+fn take_at<N: Node>(links: &mut [Link<N>], at: usize, wanted: &Wanted) -> Found
+    requires some { 0 < at }
+    requires within { at < length links.old }
+    requires wanted { IsWanted wanted.now }
+    requires linked { AreLinked N.spans links.old }
+    requires rising { IsRisingFrom 1 (spans_below N.spans links.old) }
+    ensures linked { AreLinked N.spans links.new }
+    ensures found { IsFound (highest_behind N.spans wanted.now at links.old)
+        (spans_below N.spans links.new ≡ spans_below N.spans links.old)
+        (λ lo. spans_below N.spans links.new
+        ≡ with_span (taken wanted.now lo) (spans_below N.spans links.old)) result }
+    ensures low { spans_below N.spans (take at links.new) ≡ spans_below N.spans (take at links.old) }
+    ensures others { drop (at + 1) links.new ≡ drop (at + 1) links.old }
+    ensures count { length links.new ≡ length links.old }
+{
     let end = links[at - 1].end;
-    match take_below(&mut links[at], end, wanted) {
-        Found::Nowhere => {}
-        found => return found,
+    let first = links[at].first;
+    let found = take_below(&mut links[at], end, wanted);
+    if let Found::Taken(lo) = found {
+        if lo < first {
+            let mut room = MOST_ROOM;
+            renew_at(links, at - 1, &mut room);
+            return found;
+        }
     }
-    let (low, _) = links.split_at_mut(at);
-    take_highest(low, from, wanted)
+    found
 }
 
 // Takes the highest place in a gap below one of the ranges behind the first link and above `from`.
@@ -604,21 +731,30 @@ fn take_below<N: Node>(link: &mut Link<N>, from: u64, wanted: &Wanted) -> Found
     found
 }
 
-// The place of the last link but the first whose bound is so much, or 0.
+// The last link but the first whose bound is so much, or the first, and the greatest bound of those
+// behind it.
 #[inline]
-fn last_with_room<N: Node>(links: &[Link<N>], size: u64) -> usize
-    ensures within { 0 < length links.now → result < length links.now }
-    ensures few { length links.now ≤ result → links.now ≡ [] }
-    ensures above { AreAllBelow size (drop (result + 1) links.now) }
+fn last_with_room<N: Node>(links: &[Link<N>], hint: Hint, size: u64) -> Hint
+    requires some { 0 < length links.now }
+    requires sized { 1 ≤ size }
+    requires bounded { size ≤ MAX_FRAMES }
+    requires hinted { AreHinted hint links.now }
+    ensures within { result.at < length links.now }
+    ensures above { AreAllBelow size (drop (result.at + 1) links.now) }
+    ensures hinted { AreHinted result links.now }
 {
-    let mut at = links.len();
-    while at > 1 {
-        at -= 1;
-        if links[at].room as u64 >= size {
-            return at;
+    let start = hint.start(links.len(), size);
+    let mut at = start.at;
+    let mut above = start.above;
+    while at > 0 {
+        let room = links[at].room;
+        if room as u64 >= size {
+            return Hint { at, above };
         }
+        above = above.max(room);
+        at -= 1;
     }
-    0
+    Hint { at: 0, above }
 }
 
 // A bound for all room in a gap below one of the ranges and above `from`.
@@ -646,7 +782,7 @@ fn most_room<N: Node>(links: &[Link<N>], known: u32) -> u32
 }
 
 // Whether one of the ranges has the frame.
-fn covers_any<N: Node>(links: &[Link<N>], frame: u64) -> bool
+fn covers_any<N: Node>(links: &[Link<N>], last: usize, frame: u64) -> bool
     requires linked { AreLinked N.spans links.now }
     requires rising { IsRisingFrom 0 (spans_below N.spans links.now) }
     ensures { result ≡ is_covered frame (all_of (spans_below N.spans links.now)) }
@@ -654,7 +790,7 @@ fn covers_any<N: Node>(links: &[Link<N>], frame: u64) -> bool
     if links.is_empty() {
         return false;
     }
-    let at = link_to(links, frame);
+    let at = link_to(links, last, frame);
     links[at].node.covers(frame)
 }
 

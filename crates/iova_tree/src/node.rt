@@ -39,6 +39,12 @@ pub trait Node: Drop {
         requires some { 0 < length (spans self.now) }
         ensures { result ≡ end_after 0 (spans self.now) };
 
+    /// A bound for the room between two neighbours: the least that is known. It is `most` at most.
+    fn room(&self, most: u32) -> u32
+        requires rising { IsRisingFrom 0 (spans self.now) }
+        requires most { room_between (spans self.now) ≤ most }
+        ensures { room_between (spans self.now) ≤ result };
+
     /// The highest place in a gap below one of the ranges and above `from`.
     fn highest(&self, from: u64, wanted: &Wanted) -> Option<u64>
         requires wanted { IsWanted wanted.now }
@@ -73,7 +79,7 @@ pub trait Node: Drop {
         requires room { room_between (spans self.old) ≤ room.old }
         ensures ok { OnOk result (spans self.new ≡ with_span span (spans self.old)) }
         ensures err { OnErr result (spans self.new ≡ spans self.old) }
-        ensures known { room.old ≤ room.new }
+        ensures known { OnErr result (room.old ≤ room.new) }
         ensures room { room_between (spans self.new) ≤ room.new };
 
     /// Takes out the range that begins at `lo`.
@@ -83,6 +89,7 @@ pub trait Node: Drop {
         requires room { room_between (spans self.old) ≤ room.old }
         ensures begins { result.lo ≡ lo }
         ensures taken { spans self.old ≡ with_span result (spans self.new) }
+        ensures known { room.old ≤ room.new }
         ensures room { room_between (spans self.new) ≤ room.new };
 
     /// Puts a range in the place of the one that begins at `lo`.

@@ -1,7 +1,9 @@
 //! The highest place in a gap.
-ghost use Rattle.std.specs.Prelude.{◌≡◌, ◌≤◌, min};
+ghost use Rattle.std.specs.Prelude.{◌≡◌, ◌+◌, ◌<◌, ◌≤◌, ◌⊎◌, min, max};
 ghost use Rattle.std.specs.Int.{IsPowerOfTwo};
 ghost use Rattle.iova_tree.specs.Fit.{place, IsWanted};
+
+use iova_range::limits::MAX_FRAMES;
 
 /// What is sought: so many frames, at a multiple of `align`, a power of two, that end by `cap`.
 #[derive(Clone, Copy, Drop)]
@@ -21,6 +23,57 @@ pub enum Found {
     At(u64),
     /// This is the highest place, and it has been taken.
     Taken(u64),
+}
+
+/// Where a search of things in a row begins that have room: behind this place none has more than
+/// `above`. Where nothing is known of a row, `above` is more than any request.
+#[derive(Clone, Copy)]
+pub struct Hint {
+    pub at: usize,
+    pub above: u32,
+}
+
+impl Hint {
+    /// Nothing is known.
+    #[inline]
+    pub fn none() -> Self
+        ensures { MAX_FRAMES < result.above }
+    {
+        Hint {
+            at: 0,
+            above: u32::MAX,
+        }
+    }
+
+    /// Where to begin in a row of `len` things, when so much room is sought: at the hint, where
+    /// nothing behind it has so much, or else at the last.
+    #[inline]
+    pub fn start(self, len: usize, size: u64) -> Hint
+        requires some { 0 < len }
+        requires sized { 1 ≤ size }
+        ensures within { result.at < len }
+        ensures less { result.above < size }
+        ensures known { (result ≡ self) ⊎ ((result.at + 1 ≡ len) × (result.above ≡ 0)) }
+    {
+        if (self.above as u64) < size && self.at < len {
+            return self;
+        }
+        Hint {
+            at: len - 1,
+            above: 0,
+        }
+    }
+
+    /// What is known once the thing at this place has changed.
+    #[inline]
+    pub fn behind(self, at: usize) -> Hint
+        ensures { result ≡ record { at = max self.at at; above = self.above } }
+    {
+        Hint {
+            at: self.at.max(at),
+            above: self.above,
+        }
+    }
 }
 
 /// The greatest multiple of the alignment from which the frames lie from `from` on and below

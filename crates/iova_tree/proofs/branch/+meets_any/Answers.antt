@@ -1,5 +1,4 @@
-use Rattle.std.proofs.Common.{◌≡◌, ◌-◌, ◌||◌, Bool, true, false, refl, sym, ap, ◌∙◌, arith, rules}
-use Rattle.std.specs.List.{list_any}
+use Rattle.std.proofs.Common.{◌-◌, false, sym, ◌∙◌, rules}
 use Rattle.std.proofs.lemmas.List.Folds.{list_any-append}
 use Rattle.iova_range.specs.Frames.{Frames, meets}
 use Rattle.iova_tree.specs.Spans.{inserted_of}

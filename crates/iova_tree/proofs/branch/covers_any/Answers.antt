@@ -1,5 +1,4 @@
-use Rattle.std.proofs.Common.{◌≡◌, length, sym, ◌∙◌, arith}
-use Rattle.iova_tree.proofs.Searched.{not_empty}
+use Rattle.std.proofs.Common.{sym, ◌∙◌}
 use Rattle.iova_tree.proofs.Places.{own_rises, own_covered}
 use Rattle.iova_tree.proofs.branch.covers_any.Goals as goal
 

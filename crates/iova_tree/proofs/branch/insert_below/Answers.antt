@@ -1,4 +1,4 @@
-use Rattle.std.proofs.Common.{sym, ◌∙◌, arith}
+use Rattle.std.proofs.Common.{arith}
 use Rattle.iova_tree.proofs.Spans.{length-with}
 use Rattle.iova_tree.proofs.Branches.{first_with, end_with}
 use Rattle.iova_tree.proofs.branch.insert_below.Goals as goal

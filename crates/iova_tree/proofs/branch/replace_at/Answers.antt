@@ -1,4 +1,4 @@
-use Rattle.std.proofs.Common.{◌≡◌, sym, ◌∙◌}
+use Rattle.std.proofs.Common.{◌∙◌}
 use Rattle.iova_tree.proofs.Blocks.{room_between-bounded}
 use Rattle.iova_tree.proofs.Branches.{take_set, drop_behind}
 use Rattle.iova_tree.proofs.Places.{parts_are, own_held, own_rises, own_replaced, set_replaced, behind_alone_at}

@@ -1,4 +1,3 @@
-use Rattle.std.proofs.Common.{length, arith}
 use Rattle.iova_tree.proofs.Blocks.{room_between-bounded}
 use Rattle.iova_tree.proofs.Branches.{length_replaced}
 use Rattle.iova_tree.proofs.branch.replace_below.Goals as goal

@@ -1,5 +1,4 @@
 use Rattle.std.proofs.Common.{◌<◌, length, refl, sym, ◌∙◌, arith}
-use Rattle.iova_tree.specs.Spans.{end_after}
 use Rattle.iova_tree.proofs.Spans.{end_after-any, length-with, room_between-after}
 use Rattle.iova_tree.proofs.Fits.{highest_after-no_room, highest_after-above_cap}
 use Rattle.iova_tree.proofs.Found.{comes_in}
