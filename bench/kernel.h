@@ -2,7 +2,7 @@
    files and leaves all other headers of the kernel empty. One thread runs them, or where CPUS is defined up to so many, each
    of which stands for a processor and has said which (this_cpu). So
 
-   - where LOCKS is defined, a lock that nobody holds is taken by an exchange and let go by a store, and a barrier is one for
+   - where LOCKS is defined, a lock that nobody holds is taken by an exchange and released by a store, and a barrier is one for
      the processor, as in a kernel for several; else a lock does nothing and a barrier holds only the compiler, as in a kernel
      for one. No interrupt is kept away, and the counters of flushes are plain numbers where one thread runs;
    - the slab is the C library's heap: malloc and free, and memory that is to be zero is set to zero (calloc of the GNU library

@@ -152,7 +152,7 @@ static int remove_client(struct broker *broker, uint64_t client, const char *lin
     return failed;
 }
 
-/* A new daemon, which counts its clients from 1: nothing is left of the earlier one, and its drivers are let go. */
+/* A new daemon, which counts its clients from 1: nothing is left of the earlier one, and its drivers' connections are closed. */
 static int reset(struct broker *broker) {
     int failed = unmap_all(broker);
     for (int at = 0; at < CONNECTIONS; at++)

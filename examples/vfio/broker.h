@@ -42,7 +42,7 @@ struct mapping *broker_find(struct broker *broker, uint64_t client, uint64_t add
 /* A line of the log: so many frames were mapped, used or unmapped. */
 void broker_note(struct broker *broker, const char *what, uint64_t first, uint64_t frames);
 
-/* An answer to a connection, which is let go where it takes none. */
+/* An answer to a connection, which is closed where it takes none. */
 void broker_answer(struct broker *broker, struct connection *connection, const char *text);
 
 /* The device's file. */

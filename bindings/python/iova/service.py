@@ -34,7 +34,7 @@ class Freed(NamedTuple):
 
 
 class Flushed(NamedTuple):
-    """The answer to a flush: its number, and how many ranges it let go."""
+    """The answer to a flush: its number, and how many ranges it drained."""
 
     number: int
     ranges: int

@@ -152,7 +152,7 @@ impl Shared {
                 let held = self.shared.lock();
                 let _ = held.domain.end(self.number, self.went_well);
                 // G3: `newest` and not `finish`, which would wait for flushes in flight that began before. Of one that failed it's an
-                // older number, so nothing is let go by it.
+                // older number, which frees nothing.
                 self.shared.ended.0.store(held.domain.flushes().newest, Ordering::Release);
             }
         }

@@ -110,7 +110,7 @@ pub struct Freed {
 pub struct Flushed {
     /// The flush's number.
     pub number: u64,
-    /// How many ranges it let go.
+    /// How many ranges it drained.
     pub ranges: u64,
 }
 

@@ -370,7 +370,7 @@ void iova_cache_init(iova_cache *cache);
 
 /* Makes a cache with no range in the room, of a new client of the worker, and answers the client's number. It has the domain's
  * granule. `sac` as for iova_open: frames above 4 GiB are given only by the domain, where it has none below. Refusals, and then
- * what was there stays: IOVA_NO_DOMAIN, and those of iova_open. A cache that is there is let go, and its client keeps what it
+ * what was there stays: IOVA_NO_DOMAIN, and those of iova_open. A cache that is there is dropped, and its client keeps what it
  * has. */
 iova_number iova_cache_make(iova_domain *domain, iova_cache *cache, uint64_t worker, uint64_t sac);
 
@@ -380,7 +380,7 @@ iova_number iova_cache_make(iova_domain *domain, iova_cache *cache, uint64_t wor
  * Answers 0, or IOVA_NO_MEMORY, and then what was there stays. */
 uint64_t iova_cache_apart(iova_cache *cache, uint64_t sac);
 
-/* Lets the cache go and gives its memory back, whatever it has. The room is as after iova_cache_init. */
+/* Drops the cache and gives its memory back, whatever it has. The room is as after iova_cache_init. */
 void iova_cache_clear(iova_cache *cache);
 
 /* Gives the user the newest range of the magazines, for 1 to 32 frames, rounded up to a power of two: none of its frames is

@@ -96,7 +96,7 @@ typedef struct iovad_listed {
     uint64_t lo, len;
 } iovad_listed;
 
-/* The answer to `flush`: the flush's number, and how many ranges it let go. */
+/* The answer to `flush`: the flush's number, and how many ranges it drained. */
 typedef struct iovad_flushed {
     uint64_t error, number, ranges;
 } iovad_flushed;
@@ -886,7 +886,7 @@ IOVAD_OWN_COLD iovad_range iovad_own_cache_alloc(iovad_cache *cache, uint64_t fr
         if (tries == 0 && !iovad_own_flush(cache) && iovad_own_settle(cache))
             continue; /* what waited here may do */
         iovad_own_give_back(cache);
-        iovad_own_flush(cache); /* lets go what waits in the daemon's rings */
+        iovad_own_flush(cache); /* drains what waits in the daemon's rings */
         tries = 1;
     }
     return range;

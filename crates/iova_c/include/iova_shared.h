@@ -192,7 +192,7 @@ static inline uint64_t iova_shared_flush(iova_shared *shared) {
     iova_own_lock(shared);
     iova_end(shared->domain, flush.number, (uint64_t)went_well);
     /* G3: `newest` and not `finish`, which would wait for flushes in flight that began before. Of one that failed it's
-     * an older number, so nothing is let go by it. */
+     * an older number, which frees nothing. */
     __atomic_store_n(&shared->ended, iova_flushes_of(shared->domain).newest, __ATOMIC_RELEASE);
     iova_own_unlock(shared);
     return went_well ? 0 : (uint64_t)IOVA_SINK_FAULT;
