@@ -3,7 +3,7 @@ use Rattle.std.proofs.Common.{ℕ, ◌≡◌, ◌≤◌, ◌<◌, ◌*◌, ◌^�
 use Rattle.std.specs.Prelude.{option_and_then, if◌then◌else◌}
 use Rattle.std.specs.List.{AllByRecursion}
 use Rattle.std.proofs.lemmas.Nat.{mul-le}
-use Rattle.iova_range.specs.declared.limits.TheConstants.{MAX_FRAMES}
+use Rattle.iova_range.specs.declared.limits.TheConstants.{MAX_FRAMES, MAX_GRANULE}
 use Rattle.iova_range.specs.Frames.{Frames}
 use Rattle.iova_model.specs.declared.step.Step.TheVariants as step
 use Rattle.iova_model.specs.declared.step.Reply.{Reply}
@@ -40,12 +40,12 @@ queued_sized true s w id lo r valid e = absurd cc
 queued_sized false s w id lo r valid e =
     client_sized s.workers w lo r (client_with id s.clients) (λ c is. found (IsClient s.workers) (has_id id) c s.clients valid.clients.each is) e
 
-pub queued_fits : (granule : ℕ) (s : State) (w id lo : ℕ) (m : Point) (r : Reply) → granule ≤ 2097152 → lo * granule < 2 ^ 64 → IsValid s → QueuedWereHeld
+pub queued_fits : (granule : ℕ) (s : State) (w id lo : ℕ) (m : Point) (r : Reply) → granule ≤ MAX_GRANULE → lo * granule < 2 ^ 64 → IsValid s → QueuedWereHeld
     → StepsAreAnsweredInKind → r ≡ (next s (step.Unmap w id lo) m).reply → HasAddresses granule r
 queued_fits granule s w id lo m (reply.Queued r) most small valid held kind e =
     let at : r.lo ≡ lo = subst (IsReplyTo (step.Unmap w id lo)) (sym e) (kind s (step.Unmap w id lo) m) in
     let long : r.len ≤ MAX_FRAMES = queued_sized (no_worker s w) s w id lo r valid (held s (step.Unmap w id lo) m r (sym e)) in
-    let much = mul-le r.len granule MAX_FRAMES 2097152 long most in
+    let much = mul-le r.len granule MAX_FRAMES MAX_GRANULE long most in
     (subst (λ x. x * granule < 2 ^ 64) (sym at) small, omega (arith, much))
 queued_fits granule s w id lo m (reply.Given r) most small valid held kind e = absurd (subst (IsReplyTo (step.Unmap w id lo)) (sym e) (kind s (step.Unmap w id lo) m))
 queued_fits granule s w id lo m (reply.Refused r) most small valid held kind e = tt

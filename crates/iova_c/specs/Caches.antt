@@ -1,6 +1,6 @@
 -- What a call does to a slot for a cache, which holds one or none.
 use Rattle.std.specs.Prelude.{ℕ, ◌≡◌, ◌≢◌, ◌^◌, ◌<◌, ◌≤◌, ◌⊎◌, ◌*◌, Bool, true, false, [], length, find, Option, None, Some, Result, Ok, Err, IfOk, IfErr, OnOk, OnErr, IfSome, IfNone, IsOkUnless}
-use Rattle.iova_range.specs.declared.limits.TheConstants.{MOST_CACHED, ORDERS}
+use Rattle.iova_range.specs.declared.limits.TheConstants.{FRAME_BYTES, MOST_CACHED, ORDERS}
 use Rattle.iova_range.specs.declared.refusal.Refusal.{Refusal}
 use Rattle.iova_range.specs.Refusals.{refusal_number}
 use Rattle.iova_range.specs.Frames.{Frames}
@@ -23,7 +23,6 @@ use Rattle.iova_cache.specs.Exchanges.{request, giving_up, IsAsked, IsDenied, Is
 use Rattle.iova_c.specs.Answers.{number_answer}
 use Rattle.iova_cache.specs.Apart.{IsPutIn, IsTakenOut, IsKept, IsUnkept, IsReleased}
 use Rattle.iova_c.specs.declared.cached.TheConstants.{NO_CACHE, NO_ORDER, DRY, MISS, FULL}
-use Rattle.iova_c.specs.declared.granule.TheConstants.{FRAME_BYTES}
 use Rattle.iova_c.specs.declared.slot.Paged.{Paged}
 use Rattle.iova_c.specs.declared.cached.Cached.{Cached}
 use Rattle.iova_c.specs.Slots.{with_domain}

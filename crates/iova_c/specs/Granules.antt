@@ -1,5 +1,6 @@
 -- How many bytes a frame has.
 use Rattle.std.specs.Prelude.{ℕ, ◌≡◌, ◌≤◌, ◌^◌}
+use Rattle.iova_range.specs.declared.limits.TheConstants.{FRAME_BYTES, MAX_GRANULE}
 
 -- a power of two from 4 KiB to 2 MiB
 abbrev pub IsGranule : ℕ → Type 0
@@ -10,5 +11,5 @@ pub record IsShifted (bytes shift : ℕ) : Type 0 where
   pub power : bytes ≡ 2 ^ shift
   pub twelve : 12 ≤ shift
   pub twenty_one : shift ≤ 21
-  pub least : 4096 ≤ bytes
-  pub most : bytes ≤ 2097152
+  pub least : FRAME_BYTES ≤ bytes
+  pub most : bytes ≤ MAX_GRANULE

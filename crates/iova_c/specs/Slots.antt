@@ -1,7 +1,7 @@
 -- What a call does to a slot, which holds a domain or none.
 use Rattle.std.specs.Prelude.{ℕ, zero, suc, ◌≡◌, ◌≢◌, ◌<◌, ◌≤◌, ◌⊎◌, ◌↔◌, Bool, true, false, Option, None, Some}
 use Rattle.iova_range.specs.Bounds.{Extent, AreBounds, first_profile, second_profile}
-use Rattle.iova_range.specs.declared.limits.TheConstants.{MAX_WORKERS, MAX_DEPOT}
+use Rattle.iova_range.specs.declared.limits.TheConstants.{FRAME_BYTES, MAX_WORKERS, MAX_DEPOT}
 use Rattle.iova_range.specs.declared.refusal.Refusal.TheVariants as refusal
 use Rattle.iova_range.specs.Refusals.{refusal_number}
 use Rattle.iova_model.specs.State.{State, new_domain}
@@ -10,7 +10,6 @@ use Rattle.iova_model.specs.declared.step.Step.TheVariants as step
 use Rattle.iova_model.specs.declared.step.Reply.{Reply}
 use Rattle.iova_model.specs.declared.step.Reply.TheVariants as reply
 use Rattle.iova_core.specs.Domain.{IsStepOf}
-use Rattle.iova_c.specs.declared.granule.TheConstants.{FRAME_BYTES}
 use Rattle.iova_c.specs.declared.slot.Paged.{Paged}
 use Rattle.iova_c.specs.declared.answer.RangeAnswer.{RangeAnswer}
 use Rattle.iova_c.specs.declared.answer.NumberAnswer.{NumberAnswer}

@@ -6,11 +6,11 @@ ghost use Rattle.iova_c.specs.Caches.{granule_in, in_bytes, MapCall, UnmapBytesC
 
 use crate::answer::{MappingAnswer, RangeAnswer, no_range, of_mapping};
 use crate::cached::{CacheSlot, NO_CACHE, alloc, unmap};
-use crate::granule::FRAME_BYTES;
 use crate::slot::Slot;
 use iova_core::{Reply, Step};
 use iova_laws::replies::{queued_were_held, steps_are_answered_in_kind};
 use iova_laws::requests::requests_are_answered;
+use iova_range::limits::FRAME_BYTES;
 use iova_range::refusal::Refusal;
 
 /// `Alloc` in bytes: frames for so many bytes, none of them with an address above the mask.

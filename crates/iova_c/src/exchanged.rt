@@ -6,10 +6,9 @@ ghost use Rattle.iova_c.specs.Caches.{MakeCall, MakesIn, no_number, no_range, co
 
 use crate::answer::{NumberAnswer, RangeAnswer, a_range, no_range, number_of, of_number};
 use crate::cached::{CacheSlot, Cached, NO_CACHE, NO_ORDER};
-use crate::granule::FRAME_BYTES;
 use crate::slot::{Paged, Slot};
 use iova_cache::cache::Cache;
-use iova_range::limits::ORDERS;
+use iova_range::limits::{FRAME_BYTES, ORDERS};
 use iova_range::range::Range;
 use iova_range::refusal::Refusal;
 use std::alloc::Global;

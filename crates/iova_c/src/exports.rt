@@ -16,12 +16,12 @@ use crate::answer::{
     PlaceAnswer, RangeAnswer, TotalsAnswer,
 };
 use crate::bytes::{map, unmap_bytes};
-use crate::granule::FRAME_BYTES;
 use crate::lists::{holdings, windows};
 use crate::readers::{bounds, client_of, counts, flushes, granule, place, share, totals};
 use crate::slot::{Slot, clear, empty, make, make_granule, make_second, make_second_granule};
 use crate::steps::{alloc, begin, close, close_one, drain, end, open, reserve, unmap};
 use iova_core::Step;
+use iova_range::limits::FRAME_BYTES;
 use std::alloc::Global;
 
 /// The type that C has for a slot. No value of it is ever made: a pointer to one is a pointer to a

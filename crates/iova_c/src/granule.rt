@@ -3,11 +3,9 @@ ghost use Rattle.std.specs.Prelude.{◌≡◌, ◌≤◌, ◌+◌, ◌-◌, ◌*
 ghost use Rattle.iova_c.specs.Granules.{IsGranule};
 ghost use Rattle.iova_c.specs.Bytes.{frame_at, frames_of, last_frame};
 
+use iova_range::limits::{FRAME_BYTES, MAX_GRANULE};
 use iova_range::refusal::Refusal;
 use std::marker::Model;
-
-/// The bytes of a frame where nothing else is said.
-pub const FRAME_BYTES: u64 = 4096;
 
 /// The bytes of a frame: a power of two from 4,096 to 2,097,152.
 #[derive(Drop)]
@@ -66,8 +64,8 @@ impl Granule {
     #[inline(always)]
     pub fn bytes(&self) -> u64
         ensures is { result ≡ self.now }
-        ensures least { 4096 ≤ self.now }
-        ensures most { self.now ≤ 2097152 }
+        ensures least { FRAME_BYTES ≤ self.now }
+        ensures most { self.now ≤ MAX_GRANULE }
     {
         self.bytes
     }

@@ -6,9 +6,9 @@ ghost use Rattle.iova_c.specs.Slots.{is_set, granule_of, OpenStep, RangeStep, Nu
 use crate::answer::{
     NumberAnswer, PackedAnswer, RangeAnswer, number_of, of_number, of_range, of_word, pack, unpack,
 };
-use crate::granule::FRAME_BYTES;
 use crate::slot::{Slot, is_unmap_fast, step, step_cold};
 use iova_core::{Reply, Step};
+use iova_range::limits::FRAME_BYTES;
 use iova_range::refusal::Refusal;
 
 pub fn reserve(slot: &mut Slot, lo: u64, hi: u64) -> RangeAnswer

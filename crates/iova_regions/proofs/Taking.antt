@@ -88,25 +88,25 @@ text_more (q ∷ qs) r =
     ∙ sym (append_assoc (whole_line (region_text q)) (regions_text qs) (whole_line (region_text r)))
 
 -- How far a reading has come: these regions are taken, and this text is left.
-pub record Stands (which : Counted) (bounds : Extent) (text rest : List ℕ) (number : ℕ) (old now : List Frames) : Type 0 where
+pub record HasRead (which : Counted) (bounds : Extent) (text rest : List ℕ) (number : ℕ) (old now : List Frames) : Type 0 where
   pub regions : List Region
   pub whole : text ≡ regions_text regions ++ rest
   pub taken : AreTaken which bounds regions old now
   pub number_is : number ≡ length regions
 
-pub stands_first : (which : Counted) (bounds : Extent) (text : List ℕ) (old : List Frames) → Stands which bounds text text 0 old old
-stands_first which bounds text old = record {
+pub read_first : (which : Counted) (bounds : Extent) (text : List ℕ) (old : List Frames) → HasRead which bounds text text 0 old old
+read_first which bounds text old = record {
   regions = [];
   whole = refl;
   taken = record { good = tt; windows = refl; covers = covers_none which bounds old };
   number_is = refl;
 }
 
-pub stands_more : (which : Counted) (bounds : Extent) (text rest more : List ℕ) (number : ℕ) (r : Region) (old now next : List Frames)
-    → Stands which bounds text rest number old now → rest ≡ whole_line (region_text r) ++ more → IsRegion r
+pub read_more : (which : Counted) (bounds : Extent) (text rest more : List ℕ) (number : ℕ) (r : Region) (old now next : List Frames)
+    → HasRead which bounds text rest number old now → rest ≡ whole_line (region_text r) ++ more → IsRegion r
     → next ≡ windows_after which bounds r now → length next ≤ 64 → Covers which bounds (r ∷ []) now next
-    → Stands which bounds text more (number + 1) old next
-stands_more which bounds text rest more number r old now next s line good is fits covers_it = record {
+    → HasRead which bounds text more (number + 1) old next
+read_more which bounds text rest more number r old now next s line good is fits covers_it = record {
   regions = s.regions ++ r ∷ [];
   whole = s.whole ∙ (ap (λ (x : List ℕ). regions_text s.regions ++ x) line
       ∙ (sym (append_assoc (regions_text s.regions) (whole_line (region_text r)) more) ∙ ap (λ (x : List ℕ). x ++ more) (sym (text_more s.regions r))));

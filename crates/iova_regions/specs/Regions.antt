@@ -5,7 +5,7 @@ use Rattle.std.specs.Io.KnownBytes.{Consumes, IsAtEnd}
 use Rattle.std.specs.Global.{Vec}
 use Rattle.iova_range.specs.Frames.{Frames, covers}
 use Rattle.iova_range.specs.Bounds.{Extent}
-use Rattle.iova_range.specs.declared.limits.TheConstants.{MAX_WINDOWS}
+use Rattle.iova_range.specs.declared.limits.TheConstants.{FRAME_BYTES, MAX_WINDOWS}
 use Rattle.iova_text.specs.Lines.{whole_line}
 use Rattle.iova_regions.specs.declared.region.Region.{Region}
 use Rattle.iova_regions.specs.declared.region.RegionKind.{RegionKind}
@@ -27,9 +27,10 @@ abbrev pub counts : Counted → RegionKind → Bool
 counts counted.All k = true
 counts counted.NotDirect k = if is_direct k then false else true
 
--- the frames of 4,096 bytes that the region has a byte in
+-- the frames that the region has a byte in
 abbrev pub frames_of : Region → Frames
-frames_of r = record { lo = r.first / 4096; len = r.last / 4096 + 1 - r.first / 4096 }
+frames_of r =
+    record { lo = r.first / FRAME_BYTES; len = r.last / FRAME_BYTES + 1 - r.first / FRAME_BYTES }
 
 abbrev pub with_part : Option Frames → List Frames → List Frames
 with_part None ws = ws

@@ -1,4 +1,5 @@
 use Rattle.std.proofs.Common.{◌<◌, ◌≤◌, ◌*◌, ◌^◌, arith}
+use Rattle.iova_range.specs.declared.limits.TheConstants.{MAX_GRANULE}
 use Rattle.iova_range.specs.declared.refusal.Refusal.TheVariants as refusal
 use Rattle.iova_model.specs.declared.step.Reply.TheVariants as reply
 use Rattle.iova_c.specs.Bytes.{frame_at}
@@ -12,7 +13,7 @@ pub of_mapping-requires : goal.of_mapping-requires
 of_mapping-requires c =
     let fits = c.ranges.address.fits in let before = c.frame_at.ensures.before in
     let small : c.frame_at.result * c.bytes.result < 2 ^ 64 = rw c.bytes.ensures.is (omega (arith, before, fits)) in
-    let most : c.bytes.result ≤ 2097152 = rw c.bytes.ensures.is c.bytes.ensures.most in
+    let most : c.bytes.result ≤ MAX_GRANULE = rw c.bytes.ensures.is c.bytes.ensures.most in
     queued_fits c.bytes.result c.in-Some.paged.domain c.args.worker c.args.client c.frame_at.result c.step.ensures.0 c.step.result most small
     c.workers-workers.ensures.valid c.queued_were_held.ensures c.steps_are_answered_in_kind.ensures c.step.ensures.1
 

@@ -2,7 +2,7 @@ use Rattle.std.proofs.Common.{◌≡◌, ◌==◌, ◌∙◌, ℕ, zero, suc, Bo
 use Rattle.std.proofs.lemmas.Bool.Decides.{nat_tests}
 use Rattle.iova_c.specs.declared.answer.NumberAnswer.{NumberAnswer}
 use Rattle.iova_c.specs.declared.cached.Cached.{Cached}
-use Rattle.iova_c.specs.declared.granule.TheConstants.{FRAME_BYTES}
+use Rattle.iova_range.specs.declared.limits.TheConstants.{FRAME_BYTES}
 use Rattle.iova_c.specs.declared.slot.Paged.{Paged}
 use Rattle.iova_c.specs.Slots.{is_set}
 use Rattle.iova_c.specs.Caches.{MakeCall, MakesIn}

@@ -2,7 +2,7 @@
 use Rattle.iova_c.proofs.Words.{ℕ, ◌^◌, ◌<◌, [], ◌∷◌, ◌++◌, refl, sym, subst, w64, MutBor, full_share, named, Val, vint, vptr, SProp, ent, sep, emp, ex, ex_i, never, id⊢, Lft, GName, ftrue, flft, flent, WpFn, sem, Body, suffices, ‵, raw, ◌⊛◌, some, later, ◌$◌, ◌∵◌, !, qed, by, move, keep, use0, use1, use2, use3, split, join, pick, fsplit, fjoin, await, lft_new, lft_end, stop, addr, of_opd, and_then, no_more, returns, enter, alloc_all, pass_all, free_all, look_at, get, through, sets, lands_as, fact, fact_i, tables, yes, RattleType, Is, shows, part_at, mem, uint_vals, uint_Tells, uint_Makes, uint_Lawful, u64, MutRef, lends_ref, ref_back, Ptr, block_ptr, RawPtr, rawptr_vals, rawptr_Tells, lies_at, in_a_block, plain, owned, peeks, heard, nothing, calls_at, Lasts, lasts, triple_of, Stays, stay_dropped, walk_of, Goes-dropped, fm, proved, leaves}
 use Rattle.iova_c.specs.contracts.slot.Slot.{the_row}
 use Rattle.iova_c.specs.Slots.{HasMade}
-use Rattle.iova_c.specs.declared.granule.TheConstants.{FRAME_BYTES}
+use Rattle.iova_range.specs.declared.limits.TheConstants.{FRAME_BYTES}
 use denote.RattleType.{owns}
 use denote.Signature.{types_at}
 use Rattle.std.specs.contracts.alloc.Global.{the_row as Heap}
