@@ -66,7 +66,7 @@ impl<R: Read, W: Write> Read for Prompted<R, W> {
     }
 }
 
-/// A writer of answers that tells what a refusal means. Lines are given to it whole, one or several
+/// A writer of answers that adds what a refusal means. Lines are given to it whole, one or several
 /// at a time. A contract sees nothing of it.
 #[derive(Drop)]
 struct Explained<W> {

@@ -408,7 +408,7 @@ pub(crate) const GRANULE: OptionRow = OptionRow {
     hint: "the bytes of a page frame, which metrics and info tell",
 };
 
-/// The options that the notice of a start tells, in its order; the windows of `--reserve` follow.
+/// The options that the notice of a start names, in its order; the windows of `--reserve` follow.
 pub(crate) fn told_rows() -> &'static [OptionRow] {
     &TOLD
 }

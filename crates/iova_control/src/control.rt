@@ -155,7 +155,7 @@ impl<'a, R: Wait, N> Control<'a, R, N> {
 }
 
 impl<'a, R, N: Log> Control<'a, R, N> {
-    /// Tells once that the record is full, where steps are recorded no more.
+    /// Writes a notice, once, that the record is full, where steps are recorded no more.
     pub fn look_at_record(&self, is_recording: bool) {
         if self.facts.is_recorded && !is_recording && !self.was_told.swap(true, Ordering::SeqCst) {
             warn!(self.notices; target: "", "the record is full");

@@ -181,6 +181,7 @@ fn put_daemon(
     ensures { OnOk result ((c : Counted) × (text.new.bytes.items ≡ text.old.bytes.items
         ++ metrics_text (daemon_metrics facts.now c metrics))) }
 {
+    let (granule, served, freed) = (facts.granule, metrics.served, signals.frees());
     put_all(
         text,
         &[
@@ -190,21 +191,13 @@ fn put_daemon(
                 signals.failed_flushes(),
             ),
             gauge("iovad_workers", "Workers of the domain.", facts.workers),
-            gauge(
-                "iovad_granule_bytes",
-                "Bytes of a page frame.",
-                facts.granule,
-            ),
+            gauge("iovad_granule_bytes", "Bytes of a page frame.", granule),
             gauge(
                 "iovad_clients",
                 "The most sessions that are served at a time.",
                 facts.clients,
             ),
-            gauge(
-                "iovad_sessions",
-                "Sessions that are served.",
-                metrics.served,
-            ),
+            gauge("iovad_sessions", "Sessions that are served.", served),
             counter(
                 "iovad_clients_full_total",
                 "How often the last place for a session was taken.",
@@ -225,11 +218,7 @@ fn put_daemon(
                 "Ranges that were given to clients.",
                 signals.allocs(),
             ),
-            counter(
-                "iovad_frees_total",
-                "Ranges that clients freed.",
-                signals.frees(),
-            ),
+            counter("iovad_frees_total", "Ranges that clients freed.", freed),
             gauge(
                 "iovad_clients_waiting",
                 "Clients whose end waits.",

@@ -41,7 +41,7 @@ where
     is_sync::<Shared<Q, B>>();
 }
 
-/// Threads may share their roster.
+/// Threads may share the daemon's state.
 pub(crate) fn daemon_states_are_sync()
     ensures { IsSync daemon_state.the_row }
 {

@@ -115,7 +115,7 @@ impl<L: Drop> Pool<L> {
     }
 
     /// The leader, a post of this worker, has accepted a link: it gives it back where it serves it
-    /// itself, and else has handed it over. It leads no more.
+    /// itself, and else has handed it over. Then it leads no longer.
     pub(crate) fn assign<R: Wait>(
         &self,
         rt: &R,

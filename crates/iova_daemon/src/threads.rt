@@ -29,7 +29,7 @@ pub(crate) trait Work<P: WorkerPlace, D: Sink> {
     fn work(&self, place: P, sink: D) -> (P, D)
         ensures { KeepsPlace (P.seat place) (P.seat result.0) (D.calls sink) (D.calls result.1) };
 
-    /// The roster of the workers.
+    /// What the session threads share.
     fn daemon_state(&self) -> &DaemonState;
 
     /// Takes the room that so many places need beside their own. Whether it was had.
@@ -38,13 +38,13 @@ pub(crate) trait Work<P: WorkerPlace, D: Sink> {
     /// This worker's thread can't be started.
     fn cannot_start(&self, worker: u64, error: &io::Error);
 
-    /// Whether there is anything to do aside.
+    /// Whether a control task is wanted.
     fn is_control_wanted(&self) -> bool;
 
-    /// Does what there is to do aside, until all workers have ended.
+    /// Runs the control task, until all workers have ended.
     fn run_control_task(&self);
 
-    /// The thread for what is done aside can't be started.
+    /// The control task's thread can't be started.
     fn cannot_start_control_task(&self, error: &io::Error);
 }
 
@@ -167,7 +167,7 @@ where
     )
 }
 
-/// Starts what is done aside, where there is anything to do. None where it can't be started.
+/// Starts the control task, where one is wanted. None where its thread can't be started.
 fn start_control_task<'s, E, W, P, D>(
     scope: &Scope<'s, E>,
     context: &'s W,

@@ -2,7 +2,7 @@
 use log::{Log, error};
 use std::io;
 
-/// Tells that this can't be done to what is at this path, in the system's words.
+/// Writes a notice that this can't be done to the file at this path, with the system's reason.
 pub fn tell_cause<N: Log>(notices: &N, what: &str, path: &str, why: &io::Error) {
     error!(notices; target: "", "{what} {path}: {why}");
 }

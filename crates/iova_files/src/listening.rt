@@ -231,8 +231,7 @@ fn is_refused(connected: &io::Result<UnixStream>) -> bool {
     }
 }
 
-/// Removes the file at this path. Where it can't be removed, what is left of it keeps nobody from
-/// the rest.
+/// Removes the file at this path. That it can't be removed is no fault.
 fn remove<R: Files<File = File>>(rt: &R, path: &str) {
     let _ = fs::remove_file(rt, path);
 }

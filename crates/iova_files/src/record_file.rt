@@ -74,8 +74,8 @@ fn open_for_record<R: Files<File = File>>(rt: &R, path: &str, others: &[&str]) -
     open_beside(rt, path, others)
 }
 
-/// The file at this path, open for writing, with what stands in it. It is made where it isn't
-/// there. `AlreadyExists` where it is the plain file at one of the other paths.
+/// The file at this path, open for writing, with what stands in it. It is made where there is
+/// none. `AlreadyExists` where it is the plain file at one of the other paths.
 pub fn open_beside<R: Files<File = File>>(rt: &R, path: &str, others: &[&str]) -> io::Result<File> {
     let file = OpenOptions::new().write(true).create(true).open(rt, path)?;
     for other in others {

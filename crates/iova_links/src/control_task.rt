@@ -35,14 +35,14 @@ pub trait MetricsSource {
 /// What the control socket's thread does, from the start of the first session to the end of the
 /// last one.
 pub trait ControlTask {
-    /// Whether there is anything to do: else no thread is started.
+    /// Whether it has anything to do: else no thread is started for it.
     fn is_wanted(&self) -> bool;
 
-    /// Does what there is to do, and waits for it no longer than a part of a second.
+    /// Makes one round, which waits for something to do no longer than a part of a second.
     fn turn<K: Look, T: MetricsSource>(&self, domain: &K, source: &T);
 }
 
-/// Nothing.
+/// A control task that has nothing to do.
 #[derive(Clone, Copy, Debug)]
 pub struct NoControlTask;
 

@@ -111,7 +111,7 @@ impl<'a, R: Dial> Clock for UnixNet<'a, R> {
         self.dialer.time()
     }
 
-    /// There is none.
+    /// Refused by `Unsupported`.
     fn since_1970(&self) -> io::Result<Duration> {
         Err(io::Error::from(ErrorKind::Unsupported))
     }

@@ -16,7 +16,7 @@ use std::sync::{Mutex, Wait};
 /// wakes the next one.
 const WOKEN: u64 = 16;
 
-/// A sink, and the way to it for whoever wants it for more than one call.
+/// A sink, with a turnstile before it for threads that want it for several calls in a row.
 pub struct SharedSink<D> {
     sink: Mutex<D>,
     way: Turnstile,
@@ -71,7 +71,7 @@ impl<D> SharedSink<D> {
         is_taken
     }
 
-    /// A turn has ended, and nobody is on the way.
+    /// Counts the turn that has ended, and wakes threads that wait for its end.
     fn end_turn(&self) {
         self.ended.fetch_add(1, SeqCst);
         for _ in 0..self.waiting.load(SeqCst).min(WOKEN) {

@@ -36,8 +36,8 @@ impl<'a> MadeFile<'a> {
         self.path
     }
 
-    /// Removes it, where it still stands at its path: another file there is left as it is. Where it
-    /// can't be removed, what is left of it keeps nobody from the rest.
+    /// Removes it, where it still stands at its path: another file there is left as it is. That it
+    /// can't be removed is no fault.
     pub fn remove<R: Files<File = File>>(&self, rt: &R) {
         if let Ok(metadata) = fs::symlink_metadata(rt, self.path)
             && metadata.dev() == self.device

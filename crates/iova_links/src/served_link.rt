@@ -44,8 +44,8 @@ const QUEUED: &[u8] = b"queued ";
 const FREED: &[u8] = b"freed ";
 
 /// A connected Unix socket that a daemon serves. A read that finds no byte, and a write that finds
-/// no room, are made again turn after turn, until there were as many as its patience has. One that
-/// is interrupted is made again too, and takes no turn: an interruption is no failure of this link.
+/// no room, are made again turn after turn, until its time-outs allow no more. One that is
+/// interrupted is made again too, and takes no turn: an interruption is no failure of this link.
 /// A short read makes one turn, and the next read goes on with the count. A read of a daemon that
 /// stops finds the end. Where it is the only link, it looks a while for what comes before it
 /// sleeps; where links are few, it waits by a poll behind a run of requests. Contracts see the
@@ -349,7 +349,7 @@ fn number_at(bytes: &[u8], at: usize) -> usize {
     number
 }
 
-/// Reads what comes within the patience: nothing once the daemon stops.
+/// Reads what comes within the time-outs: nothing once the daemon stops.
 #[inline(never)]
 fn received<R: Wait>(
     rt: &R,
@@ -455,7 +455,7 @@ fn is_to_be_tried_again(called: &io::Result<usize>, left: &mut u64) -> bool {
             *left = left.saturating_sub(1);
             *left > 0
         }
-        // as where the process was held up, and goes on
+        // as where the process was stopped by a signal, and goes on
         Err(error) => error.kind() == ErrorKind::Interrupted,
         Ok(_) => false,
     }

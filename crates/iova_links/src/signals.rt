@@ -71,7 +71,7 @@ impl Signals {
         self.stop_deadline.is_ending()
     }
 
-    /// What the stop hurries.
+    /// The deadline of calls of sinks once a stop was asked for.
     pub fn stop_deadline(&self) -> &StopDeadline {
         &self.stop_deadline
     }

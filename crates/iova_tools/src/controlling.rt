@@ -13,7 +13,7 @@ use std::time::Duration;
 use std::{io, str};
 
 /// Asks the daemon at this path for what the word names, and prints what it answers, without the
-/// line that tells how many lines follow. After `stop` it waits for the daemon's end. A connection
+/// line that says how many lines follow. After `stop` it waits for the daemon's end. A connection
 /// and an answer are waited for so many seconds, where that is said; else 10, and the answer to
 /// `stop` without end. Refused by `SocketFault` where nobody answers in time, or not as asked, and
 /// by `CannotWrite`.

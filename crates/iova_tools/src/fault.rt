@@ -124,8 +124,8 @@ impl<'a> Fault<'a> {
         }
     }
 
-    /// The fault of a check that was taken to its end, whose counts come to this. None where
-    /// nothing is wrong and nothing was left out.
+    /// The fault of a check with this verdict, whose log was read to its end. None where the log
+    /// has no finding and all of it was checked.
     pub fn of_verdict(verdict: Verdict) -> Option<Fault<'static>>
         ensures { result ≡ fault_of_verdict verdict }
     {
@@ -162,8 +162,8 @@ impl<'a> Fault<'a> {
 
     /// Prints the fault's line on standard error, or help on standard output, and gives the status.
     /// A finding has been printed, as has what was not checked, and prints nothing. Help that can't
-    /// be written is the fault `CannotWrite`; where a fault's line can't be, nobody is left to
-    /// tell.
+    /// be written is the fault `CannotWrite`; where a fault's line can't be, the
+    /// status alone says it.
     pub fn tell<R: Print + Eprint>(&self, rt: &R) -> ExitCode
         ensures { (exit_status result ≡ fault_status self.now)
             ⊎ ((fault_status self.now ≡ 0) × (exit_status result

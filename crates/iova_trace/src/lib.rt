@@ -1,5 +1,5 @@
 //! Traces: the replies written, and whole traces read and replayed. What a trace says, and its
-//! lines, are passed on from `iova_line`.
+//! lines, stand in `iova_line`.
 #![tactic(auto)]
 
 pub mod fault;
@@ -8,5 +8,3 @@ pub mod recorded;
 pub mod replay;
 pub mod reply;
 pub mod whole;
-
-pub use iova_line::{line, trace};

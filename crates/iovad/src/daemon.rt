@@ -137,7 +137,7 @@ where
     serve_domain(rt, plan, name, &notices, &signals, shared, posts)
 }
 
-/// Tells what is served, in the words of the command line.
+/// Writes a notice of what is served, in the words of the command line.
 fn tell_start<R: Host>(notices: &Notices<'_, R>, said: &Said<'_>, windows: &Windows) {
     let version = VERSION.lines().next().unwrap_or(VERSION);
     let words = PlanWords::new(said, windows);
@@ -670,7 +670,7 @@ fn open_sinks_first<'a, R: Host>(
     }
 }
 
-/// So many sinks. A peer is told by the first one that nothing of the domain is mapped. Refused by
+/// So many sinks. The first one has sent its peer a `reset` of the domain. Refused by
 /// `NoMemory` and by `CannotOpenSink`.
 fn open_sinks<'a, R: Host>(
     run: &Running<'a, '_, R>,
