@@ -24,6 +24,7 @@ pub fn sessions_within<R: AllocGlobal + Files<File = File>, N: Log>(
     workers: u64,
 ) -> u64
     ensures most { result ≤ clients ⊎ (result ≡ 1) }
+    ensures least { 1 ≤ clients → 1 ≤ result }
 {
     let kept = workers.saturating_add(DAEMON_DESCRIPTORS);
     let wanted = clients.saturating_add(kept);

@@ -1,5 +1,6 @@
 //! Sinks that the posts of a daemon share.
-ghost use Rattle.std.specs.Prelude.{◌≡◌, ◌≤◌, ◌+◌, IfSome, length, vec_len};
+ghost use Rattle.std.specs.Prelude.{◌≡◌, ◌≤◌, ◌+◌, [], IfSome, length, vec_len};
+ghost use Rattle.std.specs.List.{AllByRecursion};
 
 use iova_links::locked_sink::{LockedSink, SharedSink};
 use std::alloc::Global;
@@ -29,7 +30,8 @@ pub fn sinks_in_turn<'a, R, D>(
     posts: usize,
 ) -> Option<Vec<LockedSink<'a, R, D>>>
     requires { 2 ≤ length held.now }
-    ensures { IfSome result (λ v. vec_len v ≡ posts + 1) }
+    ensures count { IfSome result (λ v. vec_len v ≡ posts + 1) }
+    ensures fresh { IfSome result (λ v. AllByRecursion (λ s. s.calls ≡ []) v.items) }
 {
     let workers = held.len() - 1;
     let mut sinks = Vec::new(alloc);

@@ -1,6 +1,7 @@
 //! The sinks of a daemon: files that take records, or connections to a peer that answers.
-ghost use Rattle.std.specs.Prelude.{◌≡◌, unwrap_or};
+ghost use Rattle.std.specs.Prelude.{◌≡◌, [], IfSome, unwrap_or};
 ghost use Rattle.iova_range.specs.declared.limits.TheConstants.{SINK_TIMEOUT};
+ghost use Rattle.iova_files.specs.Sinks.{HasReset, IsOpened};
 
 use crate::cause::tell_cause;
 use iova_command::plan::Plan;
@@ -122,7 +123,9 @@ pub fn open_sink<'a, R: Clock + Files<File = File>, W: Log, N: Net + Clock>(
     stop_deadline: &'a StopDeadline,
     place: SinkPlace<'a>,
     reset: Option<u64>,
-) -> Option<DaemonSink<'a, N>> {
+) -> Option<DaemonSink<'a, N>>
+    ensures { IfSome result (λ s. IsOpened place.entry.path reset s) }
+{
     match place.path {
         SinkPath::Peer(path) => match open_peer(
             rt,
@@ -176,7 +179,9 @@ fn open_peer<'a, R: Clock, W: Log, N: Net + Clock>(
     path: &'a str,
     place: SinkPlace<'a>,
     reset: Option<u64>,
-) -> Option<ChannelSink<SocketChannel<'a, N>>> {
+) -> Option<ChannelSink<SocketChannel<'a, N>>>
+    ensures { IfSome result (λ s. (s.calls ≡ []) × HasReset reset s.channel) }
+{
     let mut channel = SocketChannel::new(net, path, place.seconds);
     channel.stop_by(stop_deadline);
     if !connects(rt, &mut channel, place) {
@@ -184,12 +189,15 @@ fn open_peer<'a, R: Clock, W: Log, N: Net + Clock>(
         return None;
     }
     let mut sink = ChannelSink::new(channel);
-    match reset {
-        Some(domain) if sink.reset(domain).is_err() => {
+    let Some(domain) = reset else {
+        return Some(sink);
+    };
+    match sink.reset(domain) {
+        Ok(()) => Some(sink),
+        Err(_) => {
             error!(notices; target: "", "reset {path}: not answered as done");
             None
         }
-        _ => Some(sink),
     }
 }
 

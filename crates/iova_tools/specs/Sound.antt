@@ -1,7 +1,10 @@
 -- What the end of a check without a fault says of the text that was read.
-use Rattle.std.specs.Prelude.{ℕ, ◌≡◌, ◌≢◌, Bool, true, false, List, Option, None}
+use Rattle.std.specs.Prelude.{ℕ, ◌≡◌, ◌≢◌, Bool, true, false, List, [], Option, Some, None}
+use Rattle.std.specs.Borrow.{Bor}
 use Rattle.std.specs.Io.KnownBytes.{Consumes, IsAtEnd}
 use Rattle.iova_range.specs.Frames.{Frames}
+use Rattle.iova_range.specs.Bounds.{second_profile}
+use Rattle.iova_range.specs.declared.limits.TheConstants.{MAX_DEPOT, WIDE_TOP}
 use Rattle.iova_check.specs.declared.source.Form.{Form}
 use Rattle.iova_check.specs.declared.source.Form.TheVariants as form
 use Rattle.iova_check.specs.declared.source.Source.{Source}
@@ -11,6 +14,8 @@ use Rattle.iova_check.specs.Logs.{AreLines, Lines}
 use Rattle.iova_check.specs.Promise.{IsKeptAt, IsLine, maps}
 use Rattle.iova_check.specs.Runs.{AreRead}
 use Rattle.iova_command.specs.declared.check_plan.CheckPlan.{CheckPlan}
+use Rattle.iova_regions.specs.Regions.{IsReadWell}
+use Rattle.iova_regions.specs.declared.region.Counted.TheVariants as counted
 
 -- Some line maps frames. Each frame of such a line may be mapped, and the promise is kept for it
 -- there. No line says that events were lost, and none was too long to be read.
@@ -52,3 +57,19 @@ pub record ChecksSound (plan : CheckPlan) (windows : List Frames)
   pub source : Source
   pub asked : IsAskedBy plan windows source
   pub reads : ReadsSound source input left
+
+-- The windows of a check: none where no file of reserved regions is named, else those of all its
+-- regions that a kernel doesn't map itself.
+abbrev pub AreKeptOut : Option (Bor (List ℕ)) → List Frames → Type 0
+AreKeptOut None windows = windows ≡ []
+AreKeptOut (Some path) windows =
+    (text : List ℕ) × IsReadWell counted.NotDirect
+    (record { start = 1; last = WIDE_TOP; profile = second_profile MAX_DEPOT }) text [] windows
+
+-- some text was read to its end and is sound in such windows; whose text it is no contract says
+pub record IsCheckedSound (plan : CheckPlan) : Type 0 where
+  pub windows : List Frames
+  pub input : Option (List ℕ)
+  pub left : Option (List ℕ)
+  pub kept_out : AreKeptOut plan.regions windows
+  pub sound : ChecksSound plan windows input left

@@ -1,7 +1,9 @@
 //! A log, or a kernel's trace, checked as the words ask for it.
-ghost use Rattle.std.specs.Prelude.{ℕ, List, OnOk, Option};
+ghost use Rattle.std.specs.Prelude.{ℕ, ◌≡◌, IfOk, List, OnOk, Option};
+ghost use Rattle.iova_range.specs.Bounds.{second_profile};
+ghost use Rattle.iova_range.specs.declared.limits.TheConstants.{MAX_DEPOT, WIDE_TOP};
 ghost use Rattle.iova_check.specs.Runs.{Checks};
-ghost use Rattle.iova_tools.specs.Sound.{ChecksSound, form_of};
+ghost use Rattle.iova_tools.specs.Sound.{AreKeptOut, ChecksSound, IsCheckedSound, form_of};
 ghost use Rattle.iova_tools.specs.Verdicts.{EndsCheck};
 
 use crate::fault::Fault;
@@ -26,10 +28,12 @@ use std::io;
 use std::io::{Eprint, Read, Write};
 use std::rt::{Files, Runtime};
 
-/// Checks what the plan names, and prints what is found.
+/// Checks what the plan names, and prints what is found. It ends without a fault only where some
+/// text was read to its end that is sound, as `check_from` says of its reader's.
 pub fn check_planned<'a, R>(rt: &R, plan: &CheckPlan<'a>) -> Result<(), Fault<'a>>
 where
     R: Runtime + AllocGlobal + Files<File = File>,
+    ensures { OnOk result (IsCheckedSound plan.now) }
 {
     let windows = windows_of(rt, plan.regions)?;
     if plan.path == STANDARD_INPUT {
@@ -46,6 +50,7 @@ where
 fn windows_of<'a, R>(rt: &R, path: Option<&'a str>) -> Result<Windows, Fault<'a>>
 where
     R: Runtime + AllocGlobal + Files<File = File>,
+    ensures { IfOk result (λ ws. AreKeptOut path.entry ws) }
 {
     let mut windows = Windows::new();
     if let Some(path) = path {
@@ -55,7 +60,9 @@ where
 }
 
 /// All frames that any bounds may have.
-fn widest() -> Bounds {
+fn widest() -> Bounds
+    ensures { result ≡ record { start = 1; last = WIDE_TOP; profile = second_profile MAX_DEPOT } }
+{
     let Ok(profile) = Profile::two(MAX_DEPOT) else {
         unreachable!();
     };
@@ -112,8 +119,8 @@ fn check_and_print<R: Runtime + AllocGlobal, I: Read>(
     }
 }
 
-/// What ends a check: the fault that it or the writing of its counts met, else what its counts come
-/// to.
+/// What ends a check: the fault that it or the writing of its counts met, else the verdict of its
+/// counts.
 fn end_of_check<'a>(
     checked: &Result<Checker, CheckFault>,
     told: Result<bool, CheckFault>,
@@ -151,7 +158,7 @@ fn checked_by<R: Runtime + AllocGlobal, I: Read, W: Write>(
     }
 }
 
-/// Tells on standard error how many lines of a kernel's trace said nothing of frames, and what was
+/// Prints on standard error how many lines of a kernel's trace said nothing of frames, and what was
 /// not checked.
 fn tell_gaps<R: Eprint>(rt: &R, plan: &CheckPlan<'_>, counts: &LogCounts) {
     if plan.ftrace {

@@ -1,5 +1,6 @@
 //! A group's reserved regions, read from the file that the words name.
-ghost use Rattle.std.specs.Prelude.{IfErr};
+ghost use Rattle.std.specs.Prelude.{ℕ, List, IfErr, OnOk, Ok};
+ghost use Rattle.iova_regions.specs.Regions.{IsReadWell, ReadsAll};
 ghost use Rattle.iova_tools.specs.Faults.{IsFaultOfRegions};
 
 use crate::fault::Fault;
@@ -13,7 +14,8 @@ use std::fs::File;
 use std::io::Read;
 use std::rt::{Files, Runtime};
 
-/// Inserts the frames of the regions that count, as far as they are within the bounds. Refused by
+/// Inserts the frames of the regions that count, as far as they are within the bounds. A contract
+/// sees that they are those of a whole text, and not which file has it. Refused by
 /// `CannotRead`, by `RegionsRefused` and by `NoMemory`.
 pub fn add_regions<'a, R>(
     rt: &R,
@@ -24,7 +26,9 @@ pub fn add_regions<'a, R>(
 ) -> Result<(), Fault<'a>>
 where
     R: Runtime + AllocGlobal + Files<File = File>,
-    ensures { IfErr result (IsFaultOfRegions path.entry) }
+    ensures read { OnOk result ((text : List ℕ)
+        × IsReadWell which bounds text windows.old windows.new) }
+    ensures faults { IfErr result (IsFaultOfRegions path.entry) }
 {
     if path == STANDARD_INPUT {
         return read_from(rt.alloc(), &mut rt.reader(), path, which, bounds, windows);
@@ -45,7 +49,9 @@ fn read_from<'a, I: Read>(
     bounds: Bounds,
     windows: &mut Windows,
 ) -> Result<(), Fault<'a>>
-    ensures { IfErr result (IsFaultOfRegions path.entry) }
+    ensures read { OnOk result (ReadsAll which bounds (I.remaining reader.old)
+        (I.remaining reader.new) windows.old windows.new (Ok tt)) }
+    ensures faults { IfErr result (IsFaultOfRegions path.entry) }
 {
     match read_all_regions(alloc, reader, which, bounds, windows) {
         Ok(()) => Ok(()),
