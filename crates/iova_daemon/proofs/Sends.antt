@@ -5,6 +5,7 @@ use Rattle.std.proofs.Crossing.{crosses}
 use Rattle.iova_keep.specs.declared.names.Names.{Ghosts}
 use Rattle.iova_lock.specs.contracts.book.Book as books
 use Rattle.iova_lock.specs.contracts.shared.Shared as domains
+use Rattle.iova_daemon.specs.contracts.daemon_state.DaemonState as daemon_states
 use Rattle.iova_daemon.specs.contracts.worker.WorkerContext as contexts
 
 -- it may be shared where all that it has may
@@ -16,3 +17,7 @@ WorkerContext-sync R N K A T H r n k a t h = search (crosses, sendable) depth 20
 pub Shared-sync : (Q B : RattleType) (b : Ghosts B.Denot) → IsSync Q → IsSend (books.the_row B b)
     → IsSync (domains.the_row Q B b)
 Shared-sync Q B b q book = search (crosses, sendable) depth 20
+
+-- so may what the threads have of their daemon
+pub DaemonState-sync : IsSync daemon_states.the_row
+DaemonState-sync = search (crosses, sendable) depth 20

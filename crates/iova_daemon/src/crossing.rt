@@ -4,9 +4,7 @@ ghost use Rattle.std.specs.Thread.{IsSend, IsSync};
 ghost use Rattle.iova_lock.specs.contracts.shared.Shared as domains;
 ghost use Rattle.iova_session.specs.contracts.post.Post as posts;
 ghost use Rattle.iova_daemon.specs.contracts.pool.Pool as pools;
-ghost use Rattle.iova_daemon.specs.contracts.daemon_state.DaemonState as daemon_state;
 
-use crate::daemon_state::DaemonState;
 use crate::pool::Pool;
 use iova_keep::names::Names;
 use iova_lock::crossing::books_are_send;
@@ -39,13 +37,6 @@ where
 {
     books_are_send::<B>();
     is_sync::<Shared<Q, B>>();
-}
-
-/// Threads may share the daemon's state.
-pub(crate) fn daemon_states_are_sync()
-    ensures { IsSync daemon_state.the_row }
-{
-    is_sync::<DaemonState>();
 }
 
 /// Threads may share a pool, whose links go from one to another.

@@ -1,31 +1,22 @@
 //! What the threads of a daemon share beside its domain and the pool of its session threads.
-ghost use Rattle.std.specs.Prelude.{◌≡◌};
-
-use crate::Serving;
+use crate::pool::Pool;
 use iova_links::control_task::{DaemonMetrics, MetricsSource};
 use iova_links::pause::milliseconds;
 use iova_model::step::ClientId;
 use iova_range::limits::MAX_WORKERS;
-use iova_session::session_limits::SessionLimits;
 use std::alloc::Global;
 use std::array;
 use std::rt::Clock;
 use std::sync::atomic::{AtomicBool, AtomicU64, Ordering};
 use std::sync::{Mutex, Wait};
 
-/// The gate that session threads wait at until all are started, what is served, how many sessions
-/// had their accept, who waits, and how many session threads have ended.
+/// The gate that session threads wait at until all are started, who waits, and how many session
+/// threads have ended.
 #[derive(Drop)]
 pub(crate) struct DaemonState {
     /// Held while threads are started; then whether all were, so that none accepts a link where one
     /// couldn't be.
     pub gate: Mutex<bool>,
-    serving: Serving,
-    met: AtomicU64,
-    served: AtomicU64,
-    full: AtomicU64,
-    /// By worker: how many sessions it serves.
-    sessions: [AtomicU64; MAX_WORKERS as usize],
     /// By worker: whether one of its session threads tries its waiting clients.
     trying: [AtomicBool; MAX_WORKERS as usize],
     waiting: AtomicU64,
@@ -45,15 +36,10 @@ struct Noted {
 }
 
 impl DaemonState {
-    /// These sessions, none of which is begun, for so many session threads, and a closed gate.
-    pub(crate) fn new(alloc: Global, serving: Serving, threads: u64) -> DaemonState {
+    /// So many session threads, none of which has begun, and a closed gate.
+    pub(crate) fn new(alloc: Global, threads: u64) -> DaemonState {
         DaemonState {
             gate: Mutex::new(false),
-            serving,
-            met: AtomicU64::new(0),
-            served: AtomicU64::new(0),
-            full: AtomicU64::new(0),
-            sessions: array::from_fn(|_worker| AtomicU64::new(0)),
             trying: array::from_fn(|_worker| AtomicBool::new(false)),
             waiting: AtomicU64::new(0),
             noted: Mutex::new(Vec::new(alloc)),
@@ -62,48 +48,6 @@ impl DaemonState {
             ended: AtomicU64::new(0),
             round: AtomicU64::new(0),
         }
-    }
-
-    /// How much a session may ask for.
-    pub(crate) fn limits(&self) -> SessionLimits
-        ensures { result ≡ self.now.serving.limits }
-    {
-        self.serving.limits
-    }
-
-    /// How many sessions are served at a time, at most: 1 at least.
-    pub(crate) fn clients(&self) -> u64 {
-        self.serving.clients.max(1)
-    }
-
-    /// Counts a session that was accepted. Whether it is the last one.
-    pub(crate) fn meet(&self) -> bool {
-        let before = self.met.fetch_add(1, Ordering::SeqCst);
-        match self.serving.sessions {
-            Some(sessions) => before.checked_add(1) == Some(sessions),
-            None => false,
-        }
-    }
-
-    /// This worker begins a session. Whether it takes the last place.
-    pub(crate) fn begin_session(&self, worker: u64) -> bool {
-        if let Some(sessions) = self.sessions.get(worker as usize) {
-            sessions.fetch_add(1, Ordering::SeqCst);
-        }
-        let before = self.served.fetch_add(1, Ordering::SeqCst);
-        let is_full = before.checked_add(1) == Some(self.clients());
-        if is_full {
-            self.full.fetch_add(1, Ordering::SeqCst);
-        }
-        is_full
-    }
-
-    /// A session of this worker has ended.
-    pub(crate) fn end_session(&self, worker: u64) {
-        if let Some(sessions) = self.sessions.get(worker as usize) {
-            sessions.fetch_sub(1, Ordering::SeqCst);
-        }
-        self.served.fetch_sub(1, Ordering::SeqCst);
     }
 
     /// A session thread of this worker is to try its waiting clients. Whether it may: it may not
@@ -172,38 +116,27 @@ fn note_all(noted: &mut Vec<Noted>, thread: u64, clients: &[ClientId]) {
 
 /// The metrics of a daemon that serves.
 #[derive(Drop)]
-pub(crate) struct LiveMetrics<'a, R> {
+pub(crate) struct LiveMetrics<'a, R, L> {
     pub rt: &'a R,
     pub daemon_state: &'a DaemonState,
+    pub pool: &'a Pool<L>,
 }
 
-impl<'a, R: Wait + Clock> MetricsSource for LiveMetrics<'a, R> {
+impl<'a, R: Wait + Clock, L: Drop> MetricsSource for LiveMetrics<'a, R, L> {
     fn metrics(&self) -> DaemonMetrics {
         let round = self.daemon_state.round.load(Ordering::SeqCst);
         let now = milliseconds(self.rt).unwrap_or(round);
-        DaemonMetrics {
-            served: self.daemon_state.served.load(Ordering::SeqCst),
-            accepted: self.daemon_state.met.load(Ordering::SeqCst),
-            waiting: self.daemon_state.waiting.load(Ordering::SeqCst),
-            full: self.daemon_state.full.load(Ordering::SeqCst),
-            since_round: now.saturating_sub(round),
-        }
+        let waiting = self.daemon_state.waiting.load(Ordering::SeqCst);
+        self.pool
+            .metrics(self.rt, waiting, now.saturating_sub(round))
     }
 
     fn sessions(&self, worker: u64) -> u64 {
-        match self.daemon_state.sessions.get(worker as usize) {
-            Some(sessions) => sessions.load(Ordering::SeqCst),
-            None => 0,
-        }
+        self.pool.sessions(self.rt, worker)
     }
 
     fn waits(&self, client: ClientId) -> bool {
         let noted = self.daemon_state.noted.lock(self.rt);
-        for note in noted.iter() {
-            if note.client == client {
-                return true;
-            }
-        }
-        false
+        noted.iter().any(|note| note.client == client)
     }
 }

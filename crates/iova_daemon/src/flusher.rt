@@ -1,5 +1,4 @@
 //! The flusher: rounds beside the workers, and flushes ahead of them.
-ghost use Rattle.std.specs.Prelude.{◌≡◌};
 ghost use Rattle.iova_keep.specs.Views.{KeepsTally};
 
 use crate::daemon_state::DaemonState;
@@ -17,7 +16,7 @@ use std::rt::Clock;
 use std::sync::Wait;
 
 /// So many frames in rings, at least, let the flusher think that a ring may soon be full.
-const FLUSH_AHEAD: u64 = 128;
+pub(crate) const FLUSH_AHEAD: u64 = 128;
 
 /// Where a worker finds its ring full, later flushes ahead wait for fewer frames, by one part of so
 /// many. Half as many would have a third more flushes made.
@@ -36,50 +35,13 @@ pub(crate) struct Flusher<'e, R, N, K, B: Names, D, P> {
     pub sink: D,
     pub pause: P,
     pub daemon_state: &'e DaemonState,
-    pub busy: Busy,
+    /// Whether the domain is busy.
+    pub is_busy: bool,
+    /// How many frames are to be in rings for a flush ahead: the most with which workers seldom
+    /// find a ring full.
+    pub mark: u64,
     /// How long it pauses behind a flush that failed, in milliseconds; 0 where the last one didn't.
     pub rest: u64,
-}
-
-/// Whether the domain is busy, and how many frames are to be in rings for a flush ahead: the most
-/// with which workers seldom find a ring full.
-#[derive(Clone, Copy)]
-pub(crate) struct Busy {
-    is_busy: bool,
-    mark: u64,
-}
-
-impl Busy {
-    /// As long as nothing is known.
-    pub(crate) fn new() -> Busy {
-        Busy {
-            is_busy: false,
-            mark: FLUSH_AHEAD,
-        }
-    }
-}
-
-impl<'e, R, N, K, B: Names, D, P> Flusher<'e, R, N, K, B, D, P> {
-    /// Its tally and its sink.
-    pub(crate) fn into_parts(self) -> (Tally<B>, D)
-    where
-        K: Drop,
-        P: Drop,
-        ensures { (result.0 ≡ self.entry.tally) × (result.1 ≡ self.entry.sink) }
-    {
-        let Flusher {
-            rt: _,
-            notices: _,
-            keeper: _,
-            tally,
-            sink,
-            pause: _,
-            daemon_state: _,
-            busy: _,
-            rest: _,
-        } = self;
-        (tally, sink)
-    }
 }
 
 impl<'e, R, N, B, K, D, P> SideTask for Flusher<'e, R, N, K, B, D, P>
@@ -105,7 +67,7 @@ where
             if !rests(&mut self.pause, self.daemon_state, self.rest) {
                 return;
             }
-            let looked = self.busy.is_busy && self.go_ahead();
+            let looked = self.is_busy && self.go_ahead();
             if (!looked && !self.pause.pause()) || self.daemon_state.have_ended() {
                 return;
             }
@@ -113,9 +75,13 @@ where
             let round = timeout(&mut self.keeper, &mut self.tally, &mut self.sink);
             if let Ok(freed) = round {
                 self.daemon_state.end_round(begun);
-                self.busy.is_busy |= freed >= FLUSH_AHEAD;
+                self.is_busy |= freed >= FLUSH_AHEAD;
             }
-            self.rest = rest_behind(round, self.rest);
+            let longer = self.rest.saturating_mul(2);
+            self.rest = match round {
+                Err(Refusal::SinkFault) => longer.clamp(FLUSH_PAUSE, MAX_FLUSH_PAUSE),
+                _ => 0,
+            };
             note_round(self.notices, round);
         }
         unreachable!()
@@ -139,7 +105,7 @@ where
         ensures { KeepsTally self.old.tally self.new.tally (D.calls self.old.sink)
             (D.calls self.new.sink) }
     {
-        self.busy.is_busy = false;
+        self.is_busy = false;
         let mut start = self.keeper.stat().start;
         let mut flushed = 0;
         for _ in 0..LOOKS {
@@ -147,20 +113,20 @@ where
                 return false;
             }
             let stat = self.keeper.stat();
-            let mut mark = self.busy.mark;
+            let mut mark = self.mark;
             if stat.start != start {
                 // a worker found its ring full
                 start = stat.start;
                 mark = mark.saturating_sub(mark / FALL).max(FLUSH_AHEAD / 2);
-                self.busy.mark = mark;
+                self.mark = mark;
             }
             if stat.ring >= mark && stat.ring != flushed {
                 flushed = stat.ring;
                 match flush(&mut self.keeper, &mut self.tally, &mut self.sink) {
                     Ok(number) => {
                         start = number;
-                        self.busy.is_busy = true;
-                        self.busy.mark = mark.saturating_add(mark / 16);
+                        self.is_busy = true;
+                        self.mark = mark.saturating_add(mark / 16);
                     }
                     Err(refusal) => {
                         note_round(self.notices, Err(refusal));
@@ -182,15 +148,6 @@ fn rests<P: Pause>(pause: &mut P, daemon_state: &DaemonState, rest: u64) -> bool
         }
     }
     true
-}
-
-/// How long it pauses behind this round, in milliseconds: twice as long as before where the sink
-/// failed, up to a second.
-fn rest_behind(round: Result<u64, Refusal>, rest: u64) -> u64 {
-    match round {
-        Err(Refusal::SinkFault) => rest.saturating_mul(2).clamp(FLUSH_PAUSE, MAX_FLUSH_PAUSE),
-        _ => 0,
-    }
 }
 
 /// A round that is refused is a notice. Of a sink that failed there is one already (`NotingSink`).

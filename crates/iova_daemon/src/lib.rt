@@ -3,9 +3,8 @@
 
 ghost use Rattle.std.specs.Prelude.{◌≡◌, ◌+◌, ◌≤◌, Ok, Err, IfOk, IfErr, map, vec_len, slice_get};
 ghost use Rattle.std.specs.Option.{ForSome};
-ghost use Rattle.iova_keep.specs.Views.{RisesWithin};
 ghost use Rattle.iova_lock.specs.Books.{tally_parts};
-ghost use Rattle.iova_daemon.specs.Serving.{AreWithin, CountsWithin, CountsWithinSome, IsServeRefusal};
+ghost use Rattle.iova_daemon.specs.Serving.{CountsWithin, CountsWithinSome, IsServeRefusal};
 
 mod crossing;
 mod daemon_state;
@@ -14,12 +13,11 @@ mod pool;
 mod threads;
 mod worker;
 
-use crate::crossing::{daemon_states_are_sync, domains_are_sync, pools_are_sync, posts_are_send};
+use crate::crossing::{domains_are_sync, pools_are_sync, posts_are_send};
 use crate::daemon_state::DaemonState;
 use crate::pool::Pool;
 use crate::worker::WorkerContext;
-use flusher::{Busy, Flusher};
-use iova_keep::keep::Keep;
+use flusher::{FLUSH_AHEAD, Flusher};
 use iova_keep::names::Names;
 use iova_keep::seat::Tally;
 use iova_links::accept::Accept;
@@ -37,7 +35,7 @@ use std::alloc::Global;
 use std::rt::Clock;
 use std::sync::Wait;
 use std::thread::Threads;
-use threads::{Joined, Work, run_all};
+use threads::{Joined, run_all};
 
 /// What serving leaves.
 #[derive(Drop)]
@@ -48,26 +46,17 @@ pub struct Served<R, B: Names> {
     pub posts: Vec<Post<B>>,
 }
 
-/// What serving leaves, with the sinks and the flusher's tally.
+/// What serving leaves of the posts, and what they were served by.
 #[derive(Drop)]
-pub struct ServedBy<R, B: Names, D> {
-    /// The domain, and the posts.
-    pub served: Served<R, B>,
-    /// The posts' sinks, in the order of the posts.
+pub struct ServedBy<B: Names, D> {
+    /// The posts, in the order in which they were given.
+    pub posts: Vec<Post<B>>,
+    /// Their sinks, in the order of the posts.
     pub sinks: Vec<D>,
     /// The flusher's sink.
     pub sink: D,
     /// The flusher's tally.
     pub tally: Tally<B>,
-}
-
-/// What serving leaves of the posts, and what they were served by.
-#[derive(Drop)]
-struct Kept<B: Names, D> {
-    posts: Vec<Post<B>>,
-    sinks: Vec<D>,
-    sink: D,
-    tally: Tally<B>,
 }
 
 /// What is served.
@@ -79,6 +68,21 @@ pub struct Serving {
     pub clients: u64,
     /// How much each of them may ask for.
     pub limits: SessionLimits,
+}
+
+impl Serving {
+    /// How many sessions are served at a time, at most: 1 at least.
+    fn places(self) -> u64 {
+        self.clients.max(1)
+    }
+
+    /// Whether all sessions had their accept, where so many had.
+    fn are_all(self, accepted: u64) -> bool {
+        match self.sessions {
+            Some(sessions) => accepted >= sessions,
+            None => false,
+        }
+    }
 }
 
 /// What a service is lent, and what it serves.
@@ -137,17 +141,10 @@ where
     };
     let accept = WithControl::new(accept, &NoControlTask);
     let served = serve_sessions::<R, Q, N, B, L, WithControl<'_, A, NoControlTask>, D, P>(
-        &service, shared, posts, sinks, &accept, pause,
+        &service, &shared, posts, sinks, &accept, pause,
     );
     match served {
-        Ok(
-            ServedBy {
-                served,
-                sinks: _,
-                sink: _,
-                tally: _,
-            },
-        ) => Ok(served),
+        Ok(ServedBy { posts, .. }) => Ok(Served { shared, posts }),
         Err(refusal) => Err(refusal),
     }
 }
@@ -156,7 +153,7 @@ where
 /// session thread: it has a thread and a sink, and serves one session at a time; several may be of
 /// one worker, and their sinks one sink behind a lock (`LockedSink`). The flusher has the last
 /// sink, and a tally that is split from the first post's seat. It returns once all sessions have
-/// ended, and gives the domain back, and the posts in their order.
+/// ended, and gives the posts back in their order.
 ///
 /// A session thread repeats: it tries its waiting clients again, unless another session thread of
 /// its worker does so, waits until there is a link for it, and serves a session over that. A
@@ -186,15 +183,15 @@ where
 /// those that were started are joined. Refused by `NoMemory` before the first one is started.
 pub fn serve_sessions<R, Q, N, B, L, A, D, P>(
     service: &Service<'_, R, N>,
-    shared: Shared<Q, B>,
+    shared: &Shared<Q, B>,
     posts: Vec<Post<B>>,
     sinks: Vec<D>,
     accept: &A,
     pause: P,
-) -> Result<ServedBy<Q, B, D>, Refusal>
+) -> Result<ServedBy<B, D>, Refusal>
 where
     R: Threads + Wait + Clock + Sync,
-    Q: Wait + Sync + Drop,
+    Q: Wait + Sync,
     N: Log + Sync,
     B: Names + Send + Sync,
     L: Link + Send + Drop,
@@ -204,114 +201,60 @@ where
     requires some { 1 ≤ vec_len posts }
     requires sinks { vec_len sinks ≡ vec_len posts + 1 }
     requires parts { ForSome (slice_get posts.items 0) (λ p. 2 ≤ p.seat.tally.parts) }
-    ensures posts { IfOk result (λ r. map (λ p. p.seat.worker) r.served.posts.items
+    ensures posts { IfOk result (λ r. map (λ p. p.seat.worker) r.posts.items
         ≡ map (λ p. p.seat.worker) posts.items) }
-    ensures shared { IfOk result (λ r. r.served.shared ≡ shared) }
     ensures within { IfOk result (λ r. CountsWithin (map (λ p. p.seat) posts.items)
-        (map D.calls sinks.items) (map (λ p. p.seat) r.served.posts.items) r.tally
+        (map D.calls sinks.items) (map (λ p. p.seat) r.posts.items) r.tally
         (map D.calls r.sinks.items) (D.calls r.sink)) }
-    ensures parts { IfOk result (λ r. tally_parts (map (λ p. p.seat) r.served.posts.items)
+    ensures parts { IfOk result (λ r. tally_parts (map (λ p. p.seat) r.posts.items)
         + r.tally.parts ≡ tally_parts (map (λ p. p.seat) posts.items)) }
     ensures refusal { IfErr result IsServeRefusal }
 {
-    // for the proof: what threads may share
+    // for the proof: what threads may share, and what may go to them
     domains_are_sync::<Q, B>();
-    daemon_states_are_sync();
     pools_are_sync::<L>();
+    posts_are_send::<B>();
+    let Some(pool) = Pool::<L>::new(service.alloc, service.serving, posts.len()) else {
+        return Err(Refusal::NoMemory);
+    };
+    let mut posts = posts;
     let mut sinks = sinks;
     let Some(sink) = sinks.pop() else {
         unreachable!()
     };
-    let daemon_state = DaemonState::new(service.alloc, service.serving, posts.len() as u64);
-    let pool: Pool<L> = Pool::new(service.alloc, service.serving);
+    let tally = split_first(&mut posts);
+    let (rt, notices) = (service.rt, service.notices);
+    let daemon_state = DaemonState::new(service.alloc, posts.len() as u64);
     let context = WorkerContext {
-        rt: service.rt,
+        rt,
         alloc: service.alloc,
-        notices: service.notices,
-        keeper: &shared,
+        notices,
+        serving: service.serving,
+        keeper: shared,
         accept,
         daemon_state: &daemon_state,
         pool: &pool,
     };
-    let served = serve_kept::<
-        R,
-        N,
-        B,
-        &Shared<Q, B>,
-        WorkerContext<&R, &N, &Shared<Q, B>, &A, &DaemonState, &Pool<L>>,
-        D,
-        P,
-    >(service, &shared, &context, posts, sinks, sink, pause);
-    match served {
-        Ok(
-            Kept {
-                posts,
-                sinks,
-                sink,
-                tally,
-            },
-        ) => Ok(ServedBy {
-            served: Served { shared, posts },
-            sinks,
-            sink,
-            tally,
-        }),
-        Err(refusal) => {
-            drop(shared);
-            Err(refusal)
-        }
-    }
-}
-
-/// Serves at the posts with what their threads are lent and given, and flushes beside them with
-/// this sink: gives all of them back.
-fn serve_kept<R, N, B, K, W, D, P>(
-    service: &Service<'_, R, N>,
-    keeper: K,
-    context: &W,
-    posts: Vec<Post<B>>,
-    sinks: Vec<D>,
-    sink: D,
-    pause: P,
-) -> Result<Kept<B, D>, Refusal>
-where
-    R: Threads + Wait + Clock,
-    N: Log,
-    B: Names + Send + Sync,
-    K: Keep<B> + Drop,
-    W: Work<Post<B>, D> + Sync,
-    D: Sink + Send + Drop,
-    P: Pause + Drop,
-    requires some { 1 ≤ vec_len posts }
-    requires sinks { vec_len posts ≡ vec_len sinks }
-    requires parts { ForSome (slice_get posts.items 0) (λ p. 2 ≤ p.seat.tally.parts) }
-    ensures posts { IfOk result (λ k. map (λ p. p.seat.worker) k.posts.items
-        ≡ map (λ p. p.seat.worker) posts.items) }
-    ensures within { IfOk result (λ k. AreWithin (map (λ p. p.seat) posts.items)
-        (map D.calls sinks.items) (map (λ p. p.seat) k.posts.items) (map D.calls k.sinks.items)) }
-    ensures flusher { IfOk result (λ k. RisesWithin 0 k.tally.good (D.calls sink) (D.calls k.sink)) }
-    ensures parts { IfOk result (λ k. tally_parts (map (λ p. p.seat) k.posts.items) + k.tally.parts
-        ≡ tally_parts (map (λ p. p.seat) posts.items)) }
-    ensures refusal { IfErr result IsServeRefusal }
-{
-    // for the proof: what a worker has may go to its thread
-    posts_are_send::<B>();
-    let mut posts = posts;
-    let tally = split_first(&mut posts);
+    let sink = NotingSink::new(sink, notices);
     let flusher = Flusher {
-        rt: service.rt,
-        notices: service.notices,
-        keeper,
+        rt,
+        notices,
+        keeper: shared,
         tally,
-        sink: NotingSink::new(sink, service.notices),
+        sink,
         pause,
-        daemon_state: context.daemon_state(),
-        busy: Busy::new(),
+        daemon_state: &daemon_state,
+        is_busy: false,
+        mark: FLUSH_AHEAD,
         rest: 0,
     };
-    let joined = run_all::<R, W, Post<B>, D, Flusher<'_, R, N, K, B, NotingSink<'_, D, N>, P>>(
-        service.rt, context, posts, sinks, flusher,
-    );
+    let joined = run_all::<
+        R,
+        WorkerContext<&R, &N, &Shared<Q, B>, &A, &DaemonState, &Pool<L>>,
+        Post<B>,
+        D,
+        Flusher<'_, R, N, &Shared<Q, B>, B, NotingSink<'_, D, N>, P>,
+    >(rt, &context, posts, sinks, flusher);
     match joined {
         Ok(
             Joined {
@@ -320,8 +263,8 @@ where
                 beside,
             },
         ) => {
-            let (tally, sink) = beside.into_parts();
-            Ok(Kept {
+            let Flusher { tally, sink, .. } = beside;
+            Ok(ServedBy {
                 posts: places,
                 sinks,
                 sink: sink.into_sink(),

@@ -2,10 +2,11 @@
 //! the others sleep. A post at which no client waits is free. A link goes to the worker that serves
 //! the fewest sessions of those with a free post, and whoever gets it serves it. A post at which
 //! clients wait rests: it leads, and serves, only where no post is free.
-ghost use Rattle.std.specs.Prelude.{◌<◌};
+ghost use Rattle.std.specs.Prelude.{◌≡◌, ◌<◌};
 ghost use Rattle.iova_range.specs.declared.limits.TheConstants.{MAX_WORKERS};
 
 use crate::Serving;
+use iova_links::control_task::DaemonMetrics;
 use iova_links::loads::{Load, fewest, may_serve, place_of};
 use iova_range::limits::{MAX_WORKERS, RETRY_PAUSE};
 use std::alloc::Global;
@@ -19,6 +20,8 @@ use std::time::Duration;
 pub(crate) struct Accepted<L> {
     pub link: L,
     pub session: u64,
+    /// Whether the session takes the last place.
+    pub is_full: bool,
 }
 
 /// What a post is to do.
@@ -45,31 +48,29 @@ pub(crate) struct Pool<L> {
 }
 
 impl<L: Drop> Pool<L> {
-    /// No post has come, and none of these sessions is served.
-    pub(crate) fn new(alloc: Global, serving: Serving) -> Pool<L> {
-        Pool {
+    /// No post has come, and none of these sessions is served. There is room for links that are
+    /// handed over, one for each of so many posts: none where it is refused.
+    pub(crate) fn new(alloc: Global, serving: Serving, posts: usize) -> Option<Pool<L>> {
+        let Ok(handed) = Vec::with_capacity(alloc, posts) else {
+            return None;
+        };
+        Some(Pool {
             state: Mutex::new(State {
                 serving,
                 is_led: false,
                 has_ended: false,
-                next: 0,
-                number: None,
+                accepted: 0,
                 served: 0,
+                full: 0,
                 loads: [Load {
                     free: 0,
                     sessions: 0,
                 }; MAX_WORKERS as usize],
-                handed: Vec::new(alloc),
+                handed,
             }),
             bells: array::from_fn(|_worker| Condvar::new()),
             rest: Condvar::new(),
-        }
-    }
-
-    /// Takes the room for links that are handed over, one for each of so many posts. Whether it was
-    /// had.
-    pub(crate) fn take_room<R: Wait>(&self, rt: &R, posts: usize) -> bool {
-        self.state.lock(rt).handed.try_reserve(posts).is_ok()
+        })
     }
 
     /// A post of the worker waits for what it is to do, where it rests for a second at most.
@@ -120,11 +121,11 @@ impl<L: Drop> Pool<L> {
         &self,
         rt: &R,
         worker: u64,
-        accepted: Accepted<L>,
+        link: L,
         rests: bool,
     ) -> Option<Accepted<L>> {
         let at = place_of(worker);
-        let assigned = self.state.lock(rt).assign(at, accepted, rests);
+        let assigned = self.state.lock(rt).assign(at, link, rests);
         match assigned {
             Ok(other) => {
                 self.ring(other);
@@ -155,6 +156,26 @@ impl<L: Drop> Pool<L> {
         let at = place_of(worker);
         self.state.lock(rt).leave(at);
         self.wake(rt, at, rests);
+    }
+
+    /// The numbers of a daemon: those of its sessions, and these.
+    pub(crate) fn metrics<R: Wait>(&self, rt: &R, waiting: u64, since_round: u64) -> DaemonMetrics {
+        let state = self.state.lock(rt);
+        DaemonMetrics {
+            served: state.served,
+            accepted: state.accepted,
+            waiting,
+            full: state.full,
+            since_round,
+        }
+    }
+
+    /// How many sessions of this worker are served.
+    pub(crate) fn sessions<R: Wait>(&self, rt: &R, worker: u64) -> u64 {
+        match self.state.lock(rt).loads.get(place_of(worker)) {
+            Some(load) => load.sessions,
+            None => 0,
+        }
     }
 
     /// No session is to come.
@@ -190,13 +211,6 @@ impl<L: Drop> Pool<L> {
     }
 }
 
-/// A link that was handed over to a free post of the worker at this place.
-#[derive(Drop)]
-struct Handed<L> {
-    at: usize,
-    accepted: Accepted<L>,
-}
-
 /// Who is free, and what waits for them. Of a worker there are as many free posts in the pool as
 /// are counted, and one for each link that was handed over to it.
 #[derive(Drop)]
@@ -204,15 +218,16 @@ struct State<L> {
     serving: Serving,
     is_led: bool,
     has_ended: bool,
-    /// The next session's number. It begins anew behind 2^64 - 1.
-    next: u64,
-    /// The number of the session that is waited for.
-    number: Option<u64>,
+    /// How many sessions had their accept: the next one's number. It begins anew behind 2^64 - 1.
+    accepted: u64,
     /// How many sessions are served.
     served: u64,
+    /// How often the last place was taken.
+    full: u64,
     /// By worker; a leader that doesn't rest is counted free.
     loads: [Load; MAX_WORKERS as usize],
-    handed: Vec<Handed<L>>,
+    /// Links that were handed over, each to a free post of the worker at this place.
+    handed: Vec<(usize, Accepted<L>)>,
 }
 
 impl<L: Drop> State<L> {
@@ -239,12 +254,9 @@ impl<L: Drop> State<L> {
             if !self.is_wanted() || !may_serve(&self.loads, rests) {
                 return None;
             }
-            if self.number.is_none() {
-                self.number = self.next_session();
-            }
-            if let Some(session) = self.number {
+            if !self.serving.are_all(self.accepted) {
                 self.is_led = true;
-                return Some(Turn::Lead(session));
+                return Some(Turn::Lead(self.accepted));
             }
             self.has_ended = true;
         }
@@ -254,24 +266,14 @@ impl<L: Drop> State<L> {
 
     /// Whether a leader is wanted.
     fn is_wanted(&self) -> bool {
-        !self.is_led && !self.has_ended && self.served < self.serving.clients.max(1)
-    }
-
-    /// The next session's number, counted from 0; none where all were taken.
-    fn next_session(&mut self) -> Option<u64> {
-        let session = self.next;
-        self.next = session.wrapping_add(1);
-        match self.serving.sessions {
-            Some(sessions) if session >= sessions => None,
-            _ => Some(session),
-        }
+        !self.is_led && !self.has_ended && self.served < self.serving.places()
     }
 
     /// The oldest link that was handed over to the worker at this place.
     fn take(&mut self, at: usize) -> Option<Accepted<L>> {
         for place in 0..self.handed.len() {
-            if self.handed[place].at == at {
-                return Some(self.handed.remove(place).accepted);
+            if self.handed[place].0 == at {
+                return Some(self.handed.remove(place).1);
             }
         }
         None
@@ -280,47 +282,54 @@ impl<L: Drop> State<L> {
     /// The leader got a link: `Ok` has the place of the worker that it was handed over to. The
     /// leader serves it itself where no post is free, where it is free itself and its worker is the
     /// one, and where there is no room.
-    fn assign(
-        &mut self,
-        at: usize,
-        accepted: Accepted<L>,
-        rests: bool,
-    ) -> Result<usize, Accepted<L>> {
-        let other = fewest(&self.loads, at);
+    fn assign(&mut self, at: usize, link: L, rests: bool) -> Result<usize, Accepted<L>> {
+        let (session, other) = (self.accepted, fewest(&self.loads, at));
         self.give_way(at, true, rests);
         match other {
             Some(other) if (rests || other != at) && self.handed.len() < self.handed.capacity() => {
-                let Ok(()) = self.handed.push(Handed {
-                    at: other,
-                    accepted,
-                })
-                else {
+                let is_full = self.begin(other);
+                let accepted = Accepted {
+                    link,
+                    session,
+                    is_full,
+                };
+                let Ok(()) = self.handed.push((other, accepted)) else {
                     unreachable!()
                 };
                 self.go(other, false);
-                self.begin(other);
                 Ok(other)
             }
             _ => {
-                self.begin(at);
-                Err(accepted)
+                let is_full = self.begin(at);
+                Err(Accepted {
+                    link,
+                    session,
+                    is_full,
+                })
             }
         }
     }
 
-    /// A session of the worker at this place begins.
-    fn begin(&mut self, at: usize) {
+    /// A session of the worker at this place begins. Whether it takes the last place.
+    fn begin(&mut self, at: usize) -> bool
+        ensures { self.new.handed ≡ self.old.handed }
+    {
         self.served = self.served.saturating_add(1);
         if let Some(load) = self.loads.get_mut(at) {
             load.sessions = load.sessions.saturating_add(1);
         }
+        let is_full = self.served == self.serving.places();
+        if is_full {
+            self.full = self.full.wrapping_add(1);
+        }
+        is_full
     }
 
     /// The leader leads no more, and goes. Its session's number may be used up.
     fn give_way(&mut self, at: usize, is_used_up: bool, rests: bool) {
         self.is_led = false;
         if is_used_up {
-            self.number = None;
+            self.accepted = self.accepted.wrapping_add(1);
         }
         self.go(at, rests);
     }

@@ -32,9 +32,6 @@ pub(crate) trait Work<P: WorkerPlace, D: Sink> {
     /// What the session threads share.
     fn daemon_state(&self) -> &DaemonState;
 
-    /// Takes the room that so many places need beside their own. Whether it was had.
-    fn take_room(&self, places: usize) -> bool;
-
     /// This worker's thread can't be started.
     fn cannot_start(&self, worker: u64, error: &io::Error);
 
@@ -133,9 +130,6 @@ where
             let Ok(mut started) = Vec::with_capacity(alloc, workers) else {
                 return Err(Refusal::NoMemory);
             };
-            if !context.take_room(workers) {
-                return Err(Refusal::NoMemory);
-            }
             // started workers wait for the gate until all are started
             let mut gate = context.daemon_state().gate.lock(rt);
             let all = start_all(scope, context, places, sinks, &mut started);

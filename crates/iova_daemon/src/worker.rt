@@ -5,6 +5,7 @@ ghost use Rattle.iova_keep.specs.Views.{KeepsPlace};
 ghost use Rattle.iova_session.specs.OneByOne.{between};
 ghost use Rattle.iova_daemon.specs.SessionThreads.{ServesOnThread, ServesSession, IsTried};
 
+use crate::Serving;
 use crate::daemon_state::{DaemonState, LiveMetrics};
 use crate::pool::{Accepted, Pool, Turn};
 use crate::threads::{Work, WorkerPlace};
@@ -42,6 +43,7 @@ pub(crate) struct WorkerContext<R, N, K, A, T, H> {
     pub rt: R,
     pub alloc: Global,
     pub notices: N,
+    pub serving: Serving,
     pub keeper: K,
     pub accept: A,
     pub daemon_state: T,
@@ -59,10 +61,13 @@ where
     A: Accept<L> + ControlTask,
     D: Sink + Drop,
 {
-    /// Waits at the gate, and then serves sessions at the post until none is to come.
+    /// Waits at the gate, and then serves sessions at the post until none is to come. Its waiting
+    /// clients are tried again before each wait in the pool, where it waits for a second at most
+    /// while there are any: so a post that rests tries them about once a second, and before it
+    /// takes a session.
     fn work(&self, place: Post<B>, sink: D) -> (Post<B>, D)
         ensures turns { (left : Option State)
-            × ServesOnThread L.left L.sent L.reads self.now.daemon_state.now.serving.limits
+            × ServesOnThread L.left L.sent L.reads self.now.serving.limits
             (K.identity self.now.keeper).strict (K.identity self.now.keeper).number
             (between place.seat place.waiting.items (D.calls sink) (K.domain self.now.keeper))
             (between result.0.seat result.0.waiting.items (D.calls result.1) left) }
@@ -71,19 +76,36 @@ where
         let mut post = place;
         let mut keeper = self.keeper;
         let mut sink = NotingSink::new(sink, self.notices);
-        if *self.daemon_state.gate.lock(self.rt) {
-            serve_on_thread(self, &mut keeper, &mut post, &mut sink);
+        let mut goes_on = *self.daemon_state.gate.lock(self.rt);
+        let thread = self.daemon_state.begin();
+        let mut noted = 0;
+        'turns: for _ in self.rt.forever() {
+            if !goes_on {
+                self.daemon_state.end();
+                return (post, sink.into_sink());
+            }
+            try_again(self.daemon_state, &mut keeper, &mut post, &mut sink);
+            noted = self.note_waiting(thread, noted, &post.waiting);
+            match self.next(post.seat.worker(), noted > 0) {
+                Turn::Serve(link) => {
+                    noted = self.serve_accepted(
+                        &mut keeper,
+                        &mut post,
+                        &mut sink,
+                        link,
+                        thread,
+                        noted,
+                    );
+                }
+                Turn::End => goes_on = false,
+                Turn::Lead(_) | Turn::Again => {}
+            }
         }
-        self.daemon_state.end();
-        (post, sink.into_sink())
+        unreachable!()
     }
 
     fn daemon_state(&self) -> &DaemonState {
         self.daemon_state
-    }
-
-    fn take_room(&self, places: usize) -> bool {
-        self.pool.take_room(self.rt, places)
     }
 
     fn cannot_start(&self, worker: u64, error: &io::Error) {
@@ -95,61 +117,23 @@ where
     }
 
     fn run_control_task(&self) {
-        let (rt, daemon_state) = (self.rt, self.daemon_state);
+        let (rt, daemon_state, pool) = (self.rt, self.daemon_state, self.pool);
+        let metrics = LiveMetrics {
+            rt,
+            daemon_state,
+            pool,
+        };
         for _ in rt.forever() {
             if daemon_state.have_ended() {
                 return;
             }
-            self.accept
-                .turn(&self.keeper, &LiveMetrics { rt, daemon_state });
+            self.accept.turn(&self.keeper, &metrics);
         }
         unreachable!()
     }
 
     fn cannot_start_control_task(&self, error: &io::Error) {
         error!(self.notices; target: "", "thread aside: {error}");
-    }
-}
-
-/// Serves sessions at the post until none is to come. Its waiting clients are tried again before
-/// each wait in the pool, where it waits for a second at most while there are any: so a post that
-/// rests tries them about once a second, and before it takes a session.
-fn serve_on_thread<'e, R, N, B, K, L, A, D>(
-    context: &WorkerContext<&'e R, &'e N, K, &'e A, &'e DaemonState, &'e Pool<L>>,
-    keeper: &mut K,
-    post: &mut Post<B>,
-    sink: &mut NotingSink<'_, D, N>,
-)
-where
-    R: Wait + Clock,
-    N: Log,
-    B: Names,
-    K: Keep<B>,
-    L: Link + Drop,
-    A: Accept<L>,
-    D: Sink,
-    ensures turns { ServesOnThread L.left L.sent L.reads context.now.daemon_state.now.serving.limits
-        (K.identity keeper.old).strict (K.identity keeper.old).number
-        (between post.old.seat post.old.waiting.items (D.calls sink.old.sink)
-        (K.domain keeper.old))
-        (between post.new.seat post.new.waiting.items (D.calls sink.new.sink)
-        (K.domain keeper.new)) }
-    ensures place { KeepsPlace post.old.seat post.new.seat (D.calls sink.old.sink)
-        (D.calls sink.new.sink) }
-{
-    let daemon_state = context.daemon_state;
-    let thread = daemon_state.begin();
-    let mut noted = 0;
-    'turns: for _ in context.rt.forever() {
-        try_again(daemon_state, keeper, post, sink);
-        noted = context.note_waiting(thread, noted, &post.waiting);
-        match context.next(post.seat.worker(), noted > 0) {
-            Turn::Serve(accepted) => {
-                noted = context.serve_accepted(keeper, post, sink, accepted, thread, noted);
-            }
-            Turn::End => return,
-            Turn::Lead(_) | Turn::Again => {}
-        }
     }
 }
 
@@ -175,7 +159,7 @@ where
         K: Keep<B>,
         ensures same { K.identity keeper.new ≡ K.identity keeper.old }
         ensures session { ServesSession L.left L.sent L.reads
-            self.now.daemon_state.now.serving.limits
+            self.now.serving.limits
             (K.identity keeper.old).strict (K.identity keeper.old).number accepted.link
             (between post.old.seat post.old.waiting.items (D.calls sink.old.sink)
             (K.domain keeper.old))
@@ -184,20 +168,21 @@ where
         ensures place { KeepsPlace post.old.seat post.new.seat (D.calls sink.old.sink)
             (D.calls sink.new.sink) }
     {
-        let Accepted { mut link, session } = accepted;
-        let (rt, daemon_state) = (self.rt, self.daemon_state);
-        let worker = post.seat.worker();
-        if daemon_state.begin_session(worker) {
-            note_full(self.notices, daemon_state.clients());
+        let Accepted {
+            mut link,
+            session,
+            is_full,
+        } = accepted;
+        if is_full {
+            note_full(self.notices, self.serving.places());
         }
         sink.begin_session();
-        let (alloc, limits) = (self.alloc, daemon_state.limits());
+        let (alloc, limits) = (self.alloc, self.serving.limits);
         let ended = run_session_within(alloc, limits, &mut link, keeper, post, sink);
         // so there are never more connections than sessions
         drop(link);
         let noted = self.note_waiting(thread, noted, &post.waiting);
-        daemon_state.end_session(worker);
-        self.pool.leave(rt, worker, noted > 0);
+        self.pool.leave(self.rt, post.seat.worker(), noted > 0);
         note_end(self.notices, session, ended.end, sink.ranges_gone());
         noted
     }
@@ -242,14 +227,11 @@ where
         };
         // an accept that fails uses up the number; after the last one nobody is accepted any more
         let is_used_up = !matches!(accepted, Ok(None));
-        if is_used_up && self.daemon_state.meet() {
+        if is_used_up && self.serving.are_all(session.wrapping_add(1)) {
             self.accept.close();
         }
         match accepted {
-            Ok(Some(link)) => {
-                self.pool
-                    .assign(self.rt, worker, Accepted { link, session }, rests)
-            }
+            Ok(Some(link)) => self.pool.assign(self.rt, worker, link, rests),
             _ => {
                 self.pool.give_way(self.rt, worker, is_used_up, rests);
                 None

@@ -15,7 +15,7 @@ use iova_command::sink_path::SinkPath;
 use iova_command::words::VERSION;
 use iova_control::control::{Control, Facts};
 use iova_core::domain::Domain;
-use iova_daemon::{Served, ServedBy, Service, Serving, serve_sessions};
+use iova_daemon::{ServedBy, Service, Serving, serve_sessions};
 use iova_files::descriptors::sessions_within;
 use iova_files::listening::{Access, is_free, listen};
 use iova_files::notices::{CountedConsole, Notices};
@@ -84,7 +84,7 @@ struct Running<'a, 'p, R> {
     plan: &'a Plan<'p>,
     notices: &'a Notices<'a, R>,
     signals: &'a Signals,
-    control: &'a Control<'a, R, Notices<'a, R>>,
+    control: &'a DaemonControl<'a, R>,
     net: &'a UnixNet<'a, R>,
     /// How many sessions are served at a time.
     clients: u64,
@@ -134,49 +134,22 @@ where
     let Some((shared, posts)) = new_domain::<R, B>(rt, plan, bounds, &windows, blanks) else {
         return Err(Fault::NoMemory);
     };
-    serve_domain(rt, plan, name, &notices, &signals, shared, posts)
-}
-
-/// Writes a notice of what is served, in the words of the command line.
-fn tell_start<R: Host>(notices: &Notices<'_, R>, said: &Said<'_>, windows: &Windows) {
-    let version = VERSION.lines().next().unwrap_or(VERSION);
-    let words = PlanWords::new(said, windows);
-    info!(notices; target: "", "iovad {version} starts: {words}");
-}
-
-/// Serves on this domain at posts of all its workers, and prints what is left of it.
-fn serve_domain<R, B>(
-    rt: &R,
-    plan: &Plan<'_>,
-    name: &str,
-    notices: &Notices<'_, R>,
-    signals: &Signals,
-    shared: Shared<&R, B>,
-    posts: Vec<Post<B>>,
-) -> Result<(), Fault<'static>>
-where
-    R: Host,
-    B: Names + Send + Sync,
-    requires posts { AreNewSeats shared (map (λ p. p.seat) posts.items) }
-    requires parts { B.ledgers.good.parts ≡ SEAT_PARTS * shared.seats }
-    ensures { IfErr result (IsFaultOfServing plan.now) }
-{
     let net = UnixNet::new(rt);
-    let clients = sessions_within(rt, notices, clients_of(plan), plan.workers);
+    let clients = sessions_within(rt, &notices, clients_of(plan), plan.workers);
     // its connections last until all is done: so whoever asked for a stop learns of the end
-    let control = Control::new(rt, notices, signals, facts_of(plan, name, clients));
+    let control = Control::new(rt, &notices, &signals, facts_of(plan, name, clients));
     let run = Running {
         rt,
         plan,
-        notices,
-        signals,
+        notices: &notices,
+        signals: &signals,
         control: &control,
         net: &net,
         clients,
     };
     let mut files = StartFiles::new(&run);
-    let rest = match Daemon::open(&run, &mut files, shared, posts) {
-        Ok(daemon) => serve_opened(&run, &mut files, daemon),
+    let rest = match open_all(&run, &mut files, &shared) {
+        Ok((sinks, accept)) => serve_opened(&run, &mut files, shared, posts, sinks, accept),
         Err(why) => Err(why),
     };
     match rest {
@@ -186,6 +159,13 @@ where
             Err(why.fault())
         }
     }
+}
+
+/// Writes a notice of what is served, in the words of the command line.
+fn tell_start<R: Host>(notices: &Notices<'_, R>, said: &Said<'_>, windows: &Windows) {
+    let version = VERSION.lines().next().unwrap_or(VERSION);
+    let words = PlanWords::new(said, windows);
+    info!(notices; target: "", "iovad {version} starts: {words}");
 }
 
 /// How many processors the daemon's threads have; 0 where the system doesn't say.
@@ -250,10 +230,7 @@ fn facts_of(plan: &Plan<'_>, name: &str, clients: u64) -> Facts {
 
 /// Whether a peer answers.
 fn has_peer(plan: &Plan<'_>) -> bool {
-    match plan.sink {
-        SinkPath::Peer(_) => true,
-        SinkPath::File(_) => false,
-    }
+    matches!(plan.sink, SinkPath::Peer(_))
 }
 
 /// The files that a daemon has made, which a start that is refused removes, and the record's file.
@@ -326,27 +303,6 @@ type DaemonAccept<'a, R> = SocketAccept<'a, R, Notices<'a, R>>;
 
 type DaemonControl<'a, R> = Control<'a, R, Notices<'a, R>>;
 
-/// A daemon: its domain under a lock, a post at each of its seats, a sink for each worker and one
-/// for the flusher, and the socket that it listens on.
-struct Daemon<'a, R, B: Names, D> {
-    shared: Shared<&'a R, B>,
-    posts: Vec<Post<B>>,
-    sinks: Vec<SharedSink<D>>,
-    accept: DaemonAccept<'a, R>,
-}
-
-/// Drops its parts. The proof stands here, once.
-impl<'a, R, B: Names, D: Drop> Drop for Daemon<'a, R, B, D> {
-    fn drop(self) {
-        let Daemon {
-            shared: _,
-            posts: _,
-            sinks: _,
-            accept: _,
-        } = self;
-    }
-}
-
 /// What a daemon leaves: its domain, and whether its record is written.
 #[derive(Drop)]
 struct Rest {
@@ -354,60 +310,46 @@ struct Rest {
     recorded: Result<(), StartFault>,
 }
 
-impl<'a, R: Host, B: Names + Send + Sync> Daemon<'a, R, B, OpenedSink<'a, R>> {
-    /// Opens what the plan names: its sinks, the record's file, and its sockets, on which nobody is
-    /// accepted yet; and begins the record.
-    fn open<'p>(
-        run: &Running<'a, 'p, R>,
-        files: &mut StartFiles<'p>,
-        shared: Shared<&'a R, B>,
-        posts: Vec<Post<B>>,
-    ) -> Result<Daemon<'a, R, B, OpenedSink<'a, R>>, StartFault>
-        requires posts { AreNewSeats shared (map (λ p. p.seat) posts.items) }
-        requires parts { B.ledgers.good.parts ≡ SEAT_PARTS * shared.seats }
-        ensures posts { IfOk result (λ d. AreNewSeats d.shared
-            (map (λ p. p.seat) d.posts.items)) }
-        ensures parts { IfOk result (λ d. B.ledgers.good.parts ≡ SEAT_PARTS * d.shared.seats) }
-        ensures sinks { IfOk result (λ d. 2 ≤ vec_len d.sinks) }
-    {
-        let sinks = open_sinks_first(run)?;
-        files.record = open_record(run)?;
-        files.control = listen_for_control(run)?;
-        let accept = listen_for_sessions(run)?;
-        match files.write_record(run, &shared) {
-            Ok(()) => Ok(Daemon {
-                shared,
-                posts,
-                sinks,
-                accept,
-            }),
-            Err(why) => {
-                accept.close();
-                Err(why)
-            }
+/// Opens what the plan names: its sinks, the record's file, and its sockets, on which nobody is
+/// accepted yet; and begins the record.
+fn open_all<'a, 'p, R: Host, B: Names>(
+    run: &Running<'a, 'p, R>,
+    files: &mut StartFiles<'p>,
+    shared: &Shared<&'a R, B>,
+) -> Result<(Vec<SharedSink<OpenedSink<'a, R>>>, DaemonAccept<'a, R>), StartFault>
+    ensures { IfOk result (λ o. 2 ≤ vec_len o.0) }
+{
+    let sinks = open_sinks_first(run)?;
+    files.record = open_record(run)?;
+    files.control = listen_for_control(run)?;
+    let accept = listen_for_sessions(run)?;
+    match files.write_record(run, shared) {
+        Ok(()) => Ok((sinks, accept)),
+        Err(why) => {
+            accept.close();
+            Err(why)
         }
     }
 }
 
-impl<'a, R: Host, B: Names + Send + Sync, D: Sink + Send + Drop> Daemon<'a, R, B, D> {
-    /// Serves the plan's sessions, and ends the service.
-    fn serve<'p>(
-        self,
-        run: &Running<'a, 'p, R>,
-        files: &mut StartFiles<'p>,
-    ) -> Result<Rest, StartFault>
-        requires posts { AreNewSeats self.shared (map (λ p. p.seat) self.posts.items) }
-        requires parts { B.ledgers.good.parts ≡ SEAT_PARTS * self.shared.seats }
-        requires sinks { 2 ≤ vec_len self.sinks }
-    {
-        let Daemon {
-            shared,
-            posts,
-            sinks,
-            accept,
-        } = self;
-        serve_at_posts(run, files, shared, posts, &sinks, &accept)
-    }
+/// Serves with these. A function of its own: that its sinks may go to threads is found where
+/// nothing else is known.
+fn serve_opened<'a, 'p, R, B>(
+    run: &Running<'a, 'p, R>,
+    files: &mut StartFiles<'p>,
+    shared: Shared<&'a R, B>,
+    posts: Vec<Post<B>>,
+    sinks: Vec<SharedSink<OpenedSink<'a, R>>>,
+    accept: DaemonAccept<'a, R>,
+) -> Result<Rest, StartFault>
+where
+    R: Host,
+    B: Names + Send + Sync,
+    requires posts { AreNewSeats shared (map (λ p. p.seat) posts.items) }
+    requires parts { B.ledgers.good.parts ≡ SEAT_PARTS * shared.seats }
+    requires sinks { 2 ≤ vec_len sinks }
+{
+    serve_at_posts(run, files, shared, posts, &sinks, &accept)
 }
 
 /// Serves the plan's sessions, each post with the sink of its worker, and ends the service.
@@ -437,23 +379,6 @@ where
             Err(StartFault::NoMemory)
         }
     }
-}
-
-/// Serves with this daemon. A function of its own: that its sinks may go to threads is found where
-/// nothing else is known.
-fn serve_opened<'a, 'p, R, B>(
-    run: &Running<'a, 'p, R>,
-    files: &mut StartFiles<'p>,
-    daemon: Daemon<'a, R, B, OpenedSink<'a, R>>,
-) -> Result<Rest, StartFault>
-where
-    R: Host,
-    B: Names + Send + Sync,
-    requires posts { AreNewSeats daemon.shared (map (λ p. p.seat) daemon.posts.items) }
-    requires parts { B.ledgers.good.parts ≡ SEAT_PARTS * daemon.shared.seats }
-    requires sinks { 2 ≤ vec_len daemon.sinks }
-{
-    daemon.serve(run, files)
 }
 
 /// What a service leaves at its end, and the sinks that it was given: those of the posts, the
@@ -496,28 +421,15 @@ where
         return Err(StartFault::NoMemory);
     };
     let beside = WithControl::new(accept, run.control);
-    let served = serve_sessions::<
-        R,
-        &R,
-        Notices<'_, R>,
-        B,
-        ServedLink<'_, R>,
-        WithControl<'_, DaemonAccept<'_, R>, DaemonControl<'_, R>>,
-        D,
-        Ticks<'_, R>,
-    >(
-        &service_of(run),
-        shared,
-        posts,
-        sinks,
-        &beside,
-        Ticks::new(run.rt),
+    let (service, pause) = (service_of(run), Ticks::new(run.rt));
+    let served = serve_sessions::<_, _, _, _, ServedLink<'_, R>, _, _, _>(
+        &service, &shared, posts, sinks, &beside, pause,
     );
     // removes the socket's file, where the last session's accept has not
     accept.close();
     files.remove_control(run);
     match served {
-        Ok(served) => Ok(end_service(run, files, served, room)),
+        Ok(served) => Ok(end_service(run, files, shared, served, room)),
         Err(Refusal::NoMemory) => Err(StartFault::NoMemory),
         Err(_) => Err(StartFault::SocketFault),
     }
@@ -528,34 +440,33 @@ where
 fn end_service<'a, 'p, R, B, D>(
     run: &Running<'a, 'p, R>,
     files: &mut StartFiles<'p>,
-    served: ServedBy<&'a R, B, D>,
+    shared: Shared<&'a R, B>,
+    served: ServedBy<B, D>,
     room: Vec<Seat<B>>,
 ) -> Ended<D, OpenedSink<'a, R>>
 where
     R: Host,
     B: Names + Send + Sync,
     D: Sink + Send + Drop,
-    requires workers { workers_of (map (λ p. p.seat) served.served.posts.items)
-        ≡ workers_of (seats_in_turn SEAT_PARTS served.served.shared.workers
-        served.served.shared.seats) }
-    requires enough { served.served.shared.workers ≤ served.served.shared.seats }
-    requires parts { tally_parts (map (λ p. p.seat) served.served.posts.items)
-        + served.tally.parts ≡ B.ledgers.good.parts }
+    requires workers { workers_of (map (λ p. p.seat) served.posts.items)
+        ≡ workers_of (seats_in_turn SEAT_PARTS shared.workers shared.seats) }
+    requires enough { shared.workers ≤ shared.seats }
+    requires parts { tally_parts (map (λ p. p.seat) served.posts.items) + served.tally.parts
+        ≡ B.ledgers.good.parts }
     requires empty { room.items ≡ [] }
-    requires room { vec_len served.served.posts ≤ vec_capacity room }
-    ensures ended { EndsCounted (map (λ p. p.seat) served.entry.served.posts.items)
-        served.entry.tally (last_calls ⟦<OpenedSink<'a, R> as Sink>⟧.calls result.last)
+    requires room { vec_len served.posts ≤ vec_capacity room }
+    ensures ended { EndsCounted (map (λ p. p.seat) served.posts.items)
+        served.tally (last_calls ⟦<OpenedSink<'a, R> as Sink>⟧.calls result.last)
         result.rest.domain }
-    ensures sinks { (result.sinks ≡ served.entry.sinks) × (result.sink ≡ served.entry.sink) }
+    ensures sinks { (result.sinks ≡ served.sinks) × (result.sink ≡ served.sink) }
 {
     info!(run.notices; target: "", "all sessions have ended");
     let ServedBy {
-        served: Served { shared, posts },
+        mut posts,
         sinks,
         sink,
         tally,
     } = served;
-    let mut posts = posts;
     let mut last = last_wanted(run, &shared, &posts);
     end_posts(&shared, &mut posts, &mut last, run.signals.is_stopping());
     run.control.look_at_record(shared.recording());
@@ -723,7 +634,8 @@ fn open_record<'p, R: Host>(
     }
 }
 
-/// Prints the domain, where the record was written, and says what is left of it.
+/// Prints the domain, where the record was written, and says what is left of it at clients and in
+/// rings, where the daemon was stopped and anything is.
 fn finish<R: Host>(run: &Running<'_, '_, R>, rest: Rest) -> Result<(), Fault<'static>>
     ensures { IfErr result (IsFaultOfServing run.now.plan.now) }
 {
@@ -737,25 +649,16 @@ fn finish<R: Host>(run: &Running<'_, '_, R>, rest: Rest) -> Result<(), Fault<'st
         &domain,
         &mut io::writer(run.rt),
     )?;
-    match look_at_rest(run, &domain) {
-        Some(left) => Err(Fault::Left(left)),
-        None => Ok(()),
-    }
-}
-
-/// What is left at clients and in rings of a daemon that was stopped, where anything is.
-fn look_at_rest<R: Host>(run: &Running<'_, '_, R>, domain: &Domain) -> Option<Left> {
-    let frames = domain.counts().ring;
-    let clients = domain.clients() as u64;
+    let (frames, clients) = (domain.counts().ring, domain.clients() as u64);
     if !run.signals.is_stopping() || (frames == 0 && clients == 0) {
-        return None;
+        return Ok(());
     }
-    Some(Left {
+    Err(Fault::Left(Left {
         clients,
         ranges: domain.totals().count,
         frames,
         has_peer: has_peer(run.plan),
-    })
+    }))
 }
 
 /// The bounds of the plan's domain: in the second profile where the plan has a depot, else in the
@@ -816,10 +719,7 @@ fn last_wanted<'a, R: Host, B: Names>(
 
 /// Whether a client waits at one of the posts.
 fn is_waited<B: Names>(posts: &[Post<B>]) -> bool {
-    let Some((post, more)) = posts.split_first() else {
-        return false;
-    };
-    !post.waiting.is_empty() || is_waited(more)
+    posts.iter().any(|post| !post.waiting.is_empty())
 }
 
 /// Ends the service of all posts, where there is a sink for it.

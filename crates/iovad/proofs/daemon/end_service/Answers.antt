@@ -14,7 +14,7 @@ into_counted-requires-clause-all g c =
     let back = given_back (λ p. p.seat.worker) _ c.end_posts.new.posts c.deref_mut.result.now _ lent.len still in
     let same = ap workers_of c.seats_of.ensures ∙ ap (λ ps. workers_of (map (λ p. p.seat) ps)) back
     ∙ ends.workers ∙ ap (λ ps. workers_of (map (λ p. p.seat) ps)) lent.value ∙ c.requires.workers in
-    all_there c.args.served.served.shared.workers c.args.served.served.shared.seats c.seats_of.result.items c.requires.enough same
+    all_there c.args.shared.workers c.args.shared.seats c.seats_of.result.items c.requires.enough same
 
 -- and their tallies have all parts but the flusher's
 pub into_counted-requires-clause-parts : goal.into_counted-requires-clause-parts

@@ -1,7 +1,5 @@
 use Rattle.std.proofs.Common.{◌≡◌, ◌≤◌, ◌∙◌, map, length, sym, ap, subst, arith}
 use Rattle.std.proofs.lemmas.List.{length-map}
-use Rattle.iova_range.specs.declared.limits.TheConstants.{SEAT_PARTS}
-use Rattle.iova_keep.specs.Views.{seats_in_turn}
 use Rattle.iova_lock.specs.Books.{tally_parts, tally_good}
 use Rattle.iovad.specs.Ends.{workers_of}
 use Rattle.iovad.proofs.Answered.{new_parts, none_counted}
@@ -23,12 +21,8 @@ serve_sessions-served-requires-clause-parts g c κs within =
 pub end_service-requires-clause-workers : goal.end_service-requires-clause-workers
 end_service-requires-clause-workers g c κs within =
     let all = c.in-Ok-served.ensures in
-    sym (workers_at (λ p. p.seat) c.in-Ok-served.served.served.posts.items) ∙ all.posts ∙ workers_at (λ p. p.seat) c.args.posts.items
-    ∙ ap workers_of c.requires.posts.turn ∙ ap (λ s. workers_of (seats_in_turn SEAT_PARTS s.workers s.seats)) (sym all.shared)
-
-pub end_service-requires-clause-enough : goal.end_service-requires-clause-enough
-end_service-requires-clause-enough g c κs within =
-    subst (λ s. s.workers ≤ s.seats) (sym c.in-Ok-served.ensures.shared) c.requires.posts.enough
+    sym (workers_at (λ p. p.seat) c.in-Ok-served.served.posts.items) ∙ all.posts ∙ workers_at (λ p. p.seat) c.args.posts.items
+    ∙ ap workers_of c.requires.posts.turn
 
 pub end_service-requires-clause-parts : goal.end_service-requires-clause-parts
 end_service-requires-clause-parts g c κs within =
@@ -37,7 +31,7 @@ end_service-requires-clause-parts g c κs within =
 -- as many posts come back as there were
 pub end_service-requires-clause-room : goal.end_service-requires-clause-room
 end_service-requires-clause-room g c κs within =
-    let now = c.in-Ok-served.served.served.posts in
+    let now = c.in-Ok-served.served.posts in
     let same = sym (workers_at (λ p. p.seat) now.items) ∙ c.in-Ok-served.ensures.posts ∙ workers_at (λ p. p.seat) c.args.posts.items in
     let long = sym (length-map now.items (λ p. p.seat)) ∙ same_length (map (λ p. p.seat) now.items) (map (λ p. p.seat) c.args.posts.items) same
     ∙ length-map c.args.posts.items (λ p. p.seat) in
