@@ -101,13 +101,17 @@ apart_at e (z ∷ (u ∷ t)) (suc (suc k)) x y r some lt p q =
 pub first_lo-drop : (k : ℕ) (l : List Span) (x : Span) → k < length l → x ≡ slice_index_or l k x → first_lo (drop k l) ≡ x.lo
 first_lo-drop k l x lt is = rw (drop-cons l k x lt) (ap (λ (y : Span). y.lo) (sym is))
 
-pub end_after-front : (l : List Span) (at : ℕ) (y : Span) → 1 ≤ at → at ≤ length l → y ≡ slice_index_or l (at - 1) y → end_after 0 (take at l) ≡ y.end
-end_after-front l zero y some le is = absurd (omega arith)
-end_after-front l (suc k) y some le is =
+-- where the ranges before a place end
+pub end_after-before : (e : ℕ) (l : List Span) (at : ℕ) (y : Span) → 1 ≤ at → at ≤ length l → y ≡ slice_index_or l (at - 1) y → end_after e (take at l) ≡ y.end
+end_after-before e l zero y some le is = absurd (omega arith)
+end_after-before e l (suc k) y some le is =
     let i : suc k - 1 ≡ k = omega arith in
-    end_after-take 0 k l y (omega arith) ∙ ap (λ (z : Span). z.end) (sym (rw i at is))
+    end_after-next e k l y (omega arith) (rw i at is)
 
-rising_front : (l : List Span) (e : ℕ) → 0 < length l → IsRisingFrom e l → e ≤ first_lo l
+pub end_after-front : (l : List Span) (at : ℕ) (y : Span) → 1 ≤ at → at ≤ length l → y ≡ slice_index_or l (at - 1) y → end_after 0 (take at l) ≡ y.end
+end_after-front l at y some le is = end_after-before 0 l at y some le is
+
+pub rising_front : (l : List Span) (e : ℕ) → 0 < length l → IsRisingFrom e l → e ≤ first_lo l
 rising_front [] e some r = absurd (omega arith)
 rising_front (x ∷ l) e some r = r.0
 
@@ -230,6 +234,28 @@ rising_sorted e (y ∷ t) r zero zero d le lt = omega arith
 rising_sorted e (y ∷ t) r zero (suc j) d le lt = let i = rising_above y.end t r.2 j d (omega arith) in omega (arith, r.1)
 rising_sorted e (y ∷ t) r (suc i) zero d le lt = absurd (omega arith)
 rising_sorted e (y ∷ t) r (suc i) (suc j) d le lt = rising_sorted y.end t r.2 i j d (omega arith) (omega arith)
+
+-- where a range is found to begin
+pub stands_at : (lo : ℕ) (l : List Span) (at : ℕ) (x : Span) → IsRisingFrom 0 l → Holds lo l → at < length l → x ≡ slice_index_or l at x → x.lo ≡ lo → StandsHere lo l at
+stands_at lo l at x r held lt is begins = stands_here 0 lo l at r held (omega arith) below above
+  where
+    own_lo : (d : Span) → (slice_index_or l at d).lo ≡ lo
+    own_lo d = ap (λ (u : Span). u.lo) (get_or_default l at d x lt ∙ sym is) ∙ begins
+
+    below : (k : ℕ) (d : Span) → k < at → (slice_index_or l k d).lo < lo
+    below k d h =
+        let y = slice_index_or l (at - 1) d in
+        let y_is : y ≡ slice_index_or l (at - 1) y = get_or_default l (at - 1) d y (omega arith) in
+        let s = rising_sorted 0 l r k (at - 1) d (omega arith) (omega arith) in
+        let o = own_at 0 l (at - 1) y r (omega arith) y_is in
+        let a = apart_at 0 l at x y r (omega arith) lt is y_is in
+        omega arith
+
+    above : (k : ℕ) (d : Span) → at ≤ k → k < length l → lo ≤ (slice_index_or l k d).lo
+    above k d le h =
+        let s = rising_sorted 0 l r at k d le h in
+        let o = own_lo d in
+        omega arith
 
 -- The most room once a range has come in at a place.
 

@@ -7,11 +7,11 @@ use Rattle.iova_tree.specs.declared.search.Hint.{Hint}
 use Rattle.iova_tree.proofs.Places.{drop_front}
 use Rattle.iova_tree.specs.Branches.{AreAllBelow, AreAtMost, AreHinted, KeepBounds}
 
-drop_zero : {A : Type 0} (l : List A) → drop 0 l ≡ l
+pub drop_zero : {A : Type 0} (l : List A) → drop 0 l ≡ l
 drop_zero [] = refl
 drop_zero (x ∷ l) = refl
 
-drop_none : {A : Type 0} (n : ℕ) → drop {A = A} n [] ≡ []
+pub drop_none : {A : Type 0} (n : ℕ) → drop {A = A} n [] ≡ []
 drop_none zero = refl
 drop_none (suc n) = refl
 

@@ -11,9 +11,9 @@ use Rattle.iova_range.proofs.Powers.{align_of-first}
 use Rattle.iova_model.specs.Fit.{Fits, IsBest, is_covered, is_clear}
 use Rattle.iova_model.proofs.Placing.{AreSome, uncovered-clear}
 use Rattle.iova_tree.specs.Room.{room}
-use Rattle.iova_tree.specs.Spans.{Span, range_of_span, all_of, end_after, IsRisingFrom, room_after, room_between}
+use Rattle.iova_tree.specs.Spans.{Span, range_of_span, all_of, end_after, IsRisingFrom, room_after}
 use Rattle.iova_tree.specs.declared.search.Wanted.{Wanted}
-use Rattle.iova_tree.specs.Fit.{IsWanted, higher, place, highest_after, highest_between, highest_free}
+use Rattle.iova_tree.specs.Fit.{IsWanted, higher, place, highest_after, highest_free}
 use Rattle.iova_tree.proofs.Rooms.{multiple_le, multiple_is, align_of_pos, room-covers}
 
 -- Two parts.
@@ -152,10 +152,6 @@ pub highest_after-no_room : (w : Wanted) (e : ℕ) (l : List Span) → IsWanted 
 highest_after-no_room w e [] z h = refl
 highest_after-no_room w e (x ∷ l) z h =
     rw (highest_after-no_room w x.end l z (omega arith), no_place w e x.lo _ z (place_greatest w e (min x.lo w.cap) (wanted_align w z)) (omega arith)) refl
-
-pub highest_between-no_room : (w : Wanted) (l : List Span) → IsWanted w → room_between l < w.size → highest_between w l ≡ None
-highest_between-no_room w [] z h = refl
-highest_between-no_room w (x ∷ l) z h = highest_after-no_room w x.end l z h
 
 pub no_place_low : (w : Wanted) (from until : ℕ) (o : Option ℕ) → IsGreatestPlace w from until o → 0 < w.size → until ≤ from → o ≡ None
 no_place_low w from until None g z h = refl

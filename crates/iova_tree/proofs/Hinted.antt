@@ -1,6 +1,6 @@
 -- What a hint says of the ranges of a block.
-use Rattle.std.proofs.Common.{ℕ, zero, suc, ◌≡◌, ◌+◌, ◌-◌, ◌<◌, ◌≤◌, ◌⊎◌, inl, inr, max, min, List, [], ◌∷◌, length, take, drop, slice_index_or, refl, sym, ap, ◌∙◌, arith, take-append-drop, length-drop}
-use Rattle.std.specs.Prelude.{insert}
+use Rattle.std.proofs.Common.{ℕ, zero, suc, ◌≡◌, ◌+◌, ◌-◌, ◌<◌, ◌≤◌, ◌⊎◌, inl, inr, max, min, List, [], ◌∷◌, ◌++◌, length, take, drop, slice_index_or, refl, sym, ap, ◌∙◌, arith, take-append-drop, length-drop}
+use Rattle.std.specs.Prelude.{insert, remove}
 use Rattle.std.proofs.Math.Seq.{drop-cons}
 use Rattle.iova_range.specs.declared.limits.TheConstants.{MAX_FRAMES}
 use Rattle.iova_tree.specs.Room.{room}
@@ -8,7 +8,8 @@ use Rattle.iova_tree.specs.Spans.{Span, end_after, room_between, room_after, IsH
 use Rattle.iova_tree.specs.declared.search.Hint.{Hint}
 use Rattle.iova_tree.specs.declared.search.Wanted.{Wanted}
 use Rattle.iova_tree.specs.Fit.{IsWanted, higher, place, highest_after}
-use Rattle.iova_tree.proofs.Spans.{room_after-append}
+use Rattle.iova_tree.proofs.Spans.{room_between-after, room_after-middle}
+use Rattle.iova_tree.proofs.Bounds.{drop_zero, drop_none}
 use Rattle.iova_tree.proofs.Blocks.{end_after-take, highest_after-step, first_lo-drop, room-first}
 use Rattle.iova_tree.proofs.Fits.{highest_after-append, highest_after-no_room}
 
@@ -55,20 +56,44 @@ highest_first w e [] x some is = absurd (omega arith)
 highest_first w e (y ∷ []) x some is = rw is refl
 highest_first w e (y ∷ (z ∷ l)) x some is = rw is refl
 
--- the gaps at the hint's place and below it, and those above
-pub room_parts : (e at : ℕ) (l : List Span) → at < length l → room_after e l ≤ max (room_after e (take (suc at) l)) (room_between (drop at l))
-room_parts e at [] lt = absurd (omega arith)
-room_parts e at (d ∷ t) lt =
-    let l = d ∷ t in
-    let r = room_from e at l d lt in
-    let parts = room_after-append e (take (suc at) l) (drop (suc at) l) in
-    let whole = ap (room_after e) (take-append-drop (suc at) l) in
-    omega (arith, whole, parts, r)
-
 pub drop_inserted : (at : ℕ) (l : List Span) (x : Span) → at ≤ length l → drop (suc at) (insert l at x) ≡ drop at l
 drop_inserted zero l x le = refl
 drop_inserted (suc at) [] x le = absurd (omega arith)
 drop_inserted (suc at) (y ∷ l) x le = drop_inserted at l x (omega arith)
+
+drop_removed : (at m : ℕ) (l : List Span) → at ≤ m → drop m (take at l ++ drop (suc at) l) ≡ drop (suc m) l
+drop_removed zero m [] le = drop_none m
+drop_removed zero m (x ∷ l) le = ap (drop m) (drop_zero l)
+drop_removed (suc at) zero l le = absurd (omega arith)
+drop_removed (suc at) (suc m) [] le = refl
+drop_removed (suc at) (suc m) (x ∷ l) le = drop_removed at m l (omega arith)
+
+room_drop : (m n : ℕ) (l : List Span) → m ≤ n → room_between (drop n l) ≤ room_between (drop m l)
+room_drop zero zero l le = omega arith
+room_drop zero (suc n) [] le = omega arith
+room_drop zero (suc n) (x ∷ l) le =
+    let rest = rw (drop_zero l) at (room_drop zero n l (omega arith)) in
+    omega (arith, rest, room_between-after x.end l)
+room_drop (suc m) zero l le = absurd (omega arith)
+room_drop (suc m) (suc n) [] le = omega arith
+room_drop (suc m) (suc n) (x ∷ l) le = room_drop m n l (omega arith)
+
+-- once the range at a place is gone
+pub removed_hinted : (hint : Hint) (at : ℕ) (l : List Span) → IsHinted hint l → IsHinted (record { at = max (hint.at - 1) at; above = hint.above }) (remove l at)
+removed_hinted hint at l is = λ low.
+    let m = max (hint.at - 1) at in
+    let e : drop m (remove l at) ≡ drop (suc m) l = drop_removed at m l (omega arith) in
+    let less = room_drop hint.at (suc m) l (omega arith) in
+    rw e (omega (arith, less, is low))
+
+-- the gaps below a range, that below it, and those above
+pub room_thirds : (e at : ℕ) (l : List Span) (x : Span) → at < length l → x ≡ slice_index_or l at x
+    → room_after e l ≡ max (max (room_after e (take at l)) (room (end_after e (take at l)) x.lo)) (room_between (drop at l))
+room_thirds e at l x lt is =
+    let back : drop at l ≡ x ∷ drop (suc at) l = drop-cons l at x lt ∙ ap (λ (y : Span). y ∷ drop (suc at) l) (sym is) in
+    let whole = ap (room_after e) (sym (take-append-drop at l) ∙ ap (λ (m : List Span). take at l ++ m) back) in
+    let parts = room_after-middle e (take at l) x (drop (suc at) l) in
+    rw back (whole ∙ parts)
 
 room_last : (at : ℕ) (l : List Span) → at + 1 ≡ length l → room_between (drop at l) ≡ 0
 room_last at [] is = absurd (omega arith)

@@ -25,12 +25,14 @@ pub record IsLinked (l : List Span) (first end room : ℕ) : Type 0 where
 abbrev pub AreLinkedBehind : {N : Type 0} → (N → List Span) → ℕ → List (Link N) → Type 0
 AreLinkedBehind spans e [] = Unit {0}
 AreLinkedBehind spans e (k ∷ t) =
-    IsLinked (spans k.node) k.first k.end k.room × (room e k.first ≤ k.room) × AreLinkedBehind spans k.end t
+    IsLinked (spans k.node) k.first k.end k.room × (room e k.first ≤ k.room)
+    × AreLinkedBehind spans k.end t
 
 -- the links of a branch: the first one's bound is not for the gap below its ranges
 abbrev pub AreLinked : {N : Type 0} → (N → List Span) → List (Link N) → Type 0
 AreLinked spans [] = Unit {0}
-AreLinked spans (k ∷ t) = IsLinked (spans k.node) k.first k.end k.room × AreLinkedBehind spans k.end t
+AreLinked spans (k ∷ t) =
+    IsLinked (spans k.node) k.first k.end k.room × AreLinkedBehind spans k.end t
 
 -- what a link says, and the ranges behind it, are as they were
 pub record IsSameLink {N : Type 0} (spans : N → List Span) (old new : Link N) : Type 0 where
@@ -69,10 +71,12 @@ AreHinted hint links = hint.above ≤ MAX_FRAMES → AreAtMost hint.above (drop 
 
 -- from this place on: what no bound was greater than, none is greater than now
 abbrev pub KeepBounds : {N : Type 0} → ℕ → List (Link N) → List (Link N) → Type 0
-KeepBounds at old new = (n room : ℕ) → at ≤ n → AreAtMost room (drop n old) → AreAtMost room (drop n new)
+KeepBounds at old new =
+    (n room : ℕ) → at ≤ n → AreAtMost room (drop n old) → AreAtMost room (drop n new)
 
 -- the highest place in a gap below one of the ranges behind the link at this place, where there is
 -- another before it
 abbrev pub highest_behind : {N : Type 0} → (N → List Span) → Wanted → ℕ → List (Link N) → Option ℕ
 highest_behind spans w at links =
-    highest_after w (end_after 0 (spans_below spans (take at links))) (spans_below spans (take 1 (drop at links)))
+    highest_after w (end_after 0 (spans_below spans (take at links)))
+    (spans_below spans (take 1 (drop at links)))

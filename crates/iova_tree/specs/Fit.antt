@@ -32,21 +32,6 @@ abbrev pub highest_after : Wanted → ℕ → List Span → Option ℕ
 highest_after w e [] = None
 highest_after w e (x ∷ t) = higher (highest_after w x.end t) (place e (min x.lo w.cap) w)
 
--- the highest place in a gap between two neighbours of the ranges
-abbrev pub highest_between : Wanted → List Span → Option ℕ
-highest_between w [] = None
-highest_between w (x ∷ t) = highest_after w x.end t
-
--- the place below the first of the ranges, above e
-abbrev pub place_before : Wanted → ℕ → List Span → Option ℕ
-place_before w e [] = None
-place_before w e (x ∷ t) = place e (min x.lo w.cap) w
-
--- the place after the last of the ranges, below lo
-abbrev pub place_behind : Wanted → List Span → ℕ → Option ℕ
-place_behind w [] lo = None
-place_behind w (x ∷ t) lo = place (end_after x.end t) (min lo w.cap) w
-
 -- the highest place at or above start that no range meets
 abbrev pub highest_free : Wanted → ℕ → List Span → Option ℕ
 highest_free w start l = higher (place (end_after start l) w.cap w) (highest_after w start l)

@@ -1,11 +1,11 @@
 //! Ranges that rise apart, side by side in a block: a leaf of the tree.
-ghost use Rattle.std.specs.Prelude.{take, drop, ◌≡◌, ◌+◌, ◌<◌, ◌≤◌, ◌-◌, [], ◌∷◌, ◌++◌, length, true, false, insert, remove, Some, None, IfSome, IfNone};
+ghost use Rattle.std.specs.Prelude.{max, take, drop, ◌≡◌, ◌+◌, ◌<◌, ◌≤◌, ◌-◌, [], ◌∷◌, ◌++◌, length, true, false, insert, remove, Some, None, IfSome, IfNone};
 ghost use Rattle.iova_tree.specs.Spans.{Span as Seen, first_lo, end_after, room_after, room_between, with_span, has_frame, is_taken_between, IsRisingFrom, Holds, StandsHere};
 ghost use Rattle.std.specs.List.{list_any};
 ghost use Rattle.iova_tree.specs.Fit.{IsWanted, highest_after, taken};
 
 use crate::node::Node;
-use crate::room::{room_above, room_with};
+use crate::room::{bound_with, room_above, room_of, room_with};
 use crate::search::{Found, Hint, Wanted, place_between};
 use crate::span::Span;
 use std::alloc::{AllocError, Global};
@@ -89,19 +89,18 @@ impl Node for Block {
         let (found, hint) = highest_of(&self.spans, start, from, wanted);
         self.hint = hint;
         let Some(lo) = found else {
-            *room = room_with_first(&self.spans, from, hint);
+            *room = room_of_all(&self.spans, from, 0, *room);
             return Found::Nowhere;
         };
         if self.is_full() {
             return Found::At(lo);
         }
-        let is_most = gap_below(&self.spans, from, hint.at) >= *room as u64;
         let span = Span::new(lo, lo + wanted.size, false);
         let Ok(()) = self.spans.insert(hint.at, span) else {
             return Found::At(lo);
         };
         self.hint = hint_once_taken(&self.spans, hint);
-        *room = room_once_taken(&self.spans, from, self.hint, is_most, *room);
+        *room = room_once_taken(&self.spans, from, self.hint, *room);
         Found::Taken(lo)
     }
 
@@ -133,9 +132,9 @@ impl Node for Block {
     }
 
     fn remove(&mut self, lo: u64, room: &mut u32) -> Span {
-        let at = place_of(&self.spans, lo);
+        let at = place_held(&self.spans, self.hint, lo);
         *room = room_without(&self.spans, at, *room);
-        self.hint = Hint::none();
+        self.hint = self.hint.without(at);
         self.spans.remove(at)
     }
 
@@ -164,6 +163,22 @@ fn place_of(spans: &[Span], lo: u64) -> usize
     ensures stands { Holds lo spans.now → StandsHere lo spans.now result }
 {
     spans.partition_point(|span| span.lo() < lo)
+}
+
+// Where the range that begins at `lo` stands. The place below the hint's is a guess: ranges go in
+// the order in which they came, and so each lies below the one that went before it.
+#[inline]
+fn place_held(spans: &[Span], hint: Hint, lo: u64) -> usize
+    requires rising { IsRisingFrom 0 spans.now }
+    requires held { Holds lo spans.now }
+    ensures { StandsHere lo spans.now result }
+{
+    if hint.at > 0 && hint.at <= spans.len() {
+        if spans[hint.at - 1].lo() == lo {
+            return hint.at - 1;
+        }
+    }
+    place_of(spans, lo)
 }
 
 // A bound for the room between two neighbours once `span` comes in at this place: two gaps that lie
@@ -198,7 +213,7 @@ fn room_among(spans: &[Span], most: u32) -> u32
     let Some((first, rest)) = spans.split_first() else {
         return 0;
     };
-    room_of_all(rest, first.end(), most)
+    room_of_all(rest, first.end(), 0, most)
 }
 
 // The most room between two neighbours where they are to be looked at, else `known`.
@@ -245,6 +260,18 @@ fn cut_at(spans: &[Span], lo: u64) -> usize
     spans.len() / 2
 }
 
+// Where the gap below the range at this place begins, `from` being where the lowest does.
+#[inline]
+fn end_below(spans: &[Span], from: u64, at: usize) -> u64
+    requires within { at ≤ length spans.now }
+    ensures { result ≡ end_after from (take at spans.now) }
+{
+    if at == 0 {
+        return from;
+    }
+    spans[at - 1].end()
+}
+
 // How many frames lie in the gap below the range at this place, `from` being where the lowest gap
 // begins.
 #[inline]
@@ -252,8 +279,7 @@ fn gap_below(spans: &[Span], from: u64, at: usize) -> u64 {
     if at >= spans.len() {
         return 0;
     }
-    let end = if at == 0 { from } else { spans[at - 1].end() };
-    spans[at].lo().saturating_sub(end)
+    spans[at].lo().saturating_sub(end_below(spans, from, at))
 }
 
 // What is known once a range has been taken at the hint's place: the gap above it is another one.
@@ -267,38 +293,32 @@ fn hint_once_taken(spans: &[Span], hint: Hint) -> Hint
 {
     Hint {
         at: hint.at,
-        above: room_with(hint.above, spans[hint.at].end(), spans[hint.at + 1].lo()),
+        above: bound_with(hint.above, spans[hint.at].end(), spans[hint.at + 1].lo()),
     }
 }
 
-// A bound for the room in a gap below one of these and above `from`, which is `known` at most. Where
-// they are to be looked at, these are the gaps at the hint's place and below.
+// The most room in a gap below one of these and above `from` once a range has been taken at the
+// hint's place, or what was `known`, where another gap may have as much. The gaps above the hint
+// are looked at only where they may have more than the one at its place.
 #[inline]
-fn room_once_taken(spans: &[Span], from: u64, hint: Hint, is_looked_at: bool, known: u32) -> u32
+fn room_once_taken(spans: &[Span], from: u64, hint: Hint, known: u32) -> u32
     requires some { 1 ≤ from }
-    requires within { hint.at < length spans.now }
+    requires within { hint.at + 1 < length spans.now }
     requires rising { IsRisingFrom from spans.now }
     requires hinted { room_between (drop hint.at spans.now) ≤ hint.above }
     requires known { room_after from spans.now ≤ known }
     ensures { room_after from spans.now ≤ result }
 {
-    if !is_looked_at {
+    let end = end_below(spans, from, hint.at);
+    let frames = spans[hint.at + 1].lo().saturating_sub(end);
+    if frames < known as u64 {
         return known;
     }
-    room_of_all(&spans[..hint.at + 1], from, known).max(hint.above)
-}
-
-// A bound for the room in a gap below one of these and above `from`, where all gaps above the first
-// range were looked at.
-#[inline]
-fn room_with_first(spans: &[Span], from: u64, hint: Hint) -> u32
-    requires some { 1 ≤ from }
-    requires within { 0 < length spans.now }
-    requires rising { IsRisingFrom from spans.now }
-    requires hinted { room_between spans.now ≤ hint.above }
-    ensures { room_after from spans.now ≤ result }
-{
-    room_with(hint.above, from, spans[0].lo())
+    let left = room_of(end, spans[hint.at].lo());
+    if left < hint.above {
+        return room_of_all(spans, from, left, known);
+    }
+    room_of_all(&spans[..hint.at], from, left, known)
 }
 
 // The highest place in a gap below one of these and above `from`, and where it lies: above so many
@@ -313,7 +333,6 @@ fn highest_of(spans: &[Span], hint: Hint, from: u64, wanted: &Wanted) -> (Option
     ensures found { highest_after wanted.now from spans.now ≡ result.0 }
     ensures within { result.1.at < length spans.now }
     ensures hinted { room_between (drop result.1.at spans.now) ≤ result.1.above }
-    ensures nothing { IfNone result.0 (result.1.at ≡ 0) }
     ensures place { IfSome result.0 (λ lo. insert spans.now result.1.at (taken wanted.now lo)
         ≡ with_span (taken wanted.now lo) spans.now) }
 {
@@ -325,22 +344,25 @@ fn highest_of(spans: &[Span], hint: Hint, from: u64, wanted: &Wanted) -> (Option
         if let Some(place) = place_between(end, lo, wanted) {
             return (Some(place), Hint { at, above });
         }
-        above = room_with(above, end, lo);
+        above = bound_with(above, end, lo);
         at -= 1;
     }
     let found = place_between(from, spans[0].lo(), wanted);
     (found, Hint { at: 0, above })
 }
 
-// The most room in a gap below one of these and above `from`, which is `most` at most: nothing is
-// looked at behind a gap that has as much.
-fn room_of_all(spans: &[Span], from: u64, most: u32) -> u32
+// The most room in a gap below one of these and above `from`, which is `most` at most, or `least`
+// where that is more: nothing is looked at behind what is as much as `most`.
+fn room_of_all(spans: &[Span], from: u64, least: u32, most: u32) -> u32
     requires some { 1 ≤ from }
     requires rising { IsRisingFrom from spans.now }
     requires most { room_after from spans.now ≤ most }
-    ensures { result ≡ room_after from spans.now }
+    ensures { result ≡ max least (room_after from spans.now) }
 {
-    let mut room = 0;
+    if least >= most {
+        return least;
+    }
+    let mut room = least;
     let mut end = from;
     for span in spans {
         if let Some(more) = room_above(room, end, span.lo()) {

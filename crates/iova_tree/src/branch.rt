@@ -336,7 +336,7 @@ fn insert_at<N: Node>(
     Ok(())
 }
 
-// Makes the bound of the link at this place the least that is known. The gap below its ranges has
+// Makes the bound of the link at this place the least that is known. A gap beside its ranges has
 // become shorter.
 fn renew_at<N: Node>(links: &mut [Link<N>], at: usize, room: &mut u32)
     requires linked { AreLinked N.spans links.old }
@@ -422,8 +422,8 @@ fn remove_at<N: Node>(links: &mut Vec<Link<N>>, at: usize, lo: u64, room: &mut u
     gone
 }
 
-// Makes the bounds of the link at this place, which has lost a range, and of the one behind it those
-// for the gaps below their ranges too, and `room` no less.
+// Makes the bounds of the link at this place, whose ranges have changed, and of the one behind it
+// those for the gaps below their ranges too, and `room` no less.
 #[inline]
 fn settle<N: Node>(links: &mut [Link<N>], at: usize, room: &mut u32)
     requires within { at < length links.old }

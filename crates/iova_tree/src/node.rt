@@ -21,7 +21,8 @@ pub trait Node: Drop {
     fn single(alloc: Global, span: Span) -> Result<Self, AllocError>
         ensures { IfOk result (λ node. spans node ≡ span ∷ []) };
 
-    /// Whether it is to be split before one more comes in.
+    /// Whether it is to be split before one more comes in. Nothing is promised of it: a wrong
+    /// answer costs time or memory alone.
     fn is_full(&self) -> bool;
 
     /// Whether it has no range.
@@ -39,7 +40,7 @@ pub trait Node: Drop {
         requires some { 0 < length (spans self.now) }
         ensures { result ≡ end_after 0 (spans self.now) };
 
-    /// A bound for the room between two neighbours: the least that is known. It is `most` at most.
+    /// A bound for the room between two neighbours, which `most` is too: the least that is known.
     fn room(&self, most: u32) -> u32
         requires rising { IsRisingFrom 0 (spans self.now) }
         requires most { room_between (spans self.now) ≤ most }

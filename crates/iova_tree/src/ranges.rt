@@ -3,13 +3,14 @@ ghost use Rattle.std.specs.Prelude.{◌≡◌, ◌-◌, ◌<◌, ◌≤◌, [], 
 ghost use Rattle.std.specs.List.{list_any};
 ghost use Rattle.iova_range.specs.Frames.{meets};
 ghost use Rattle.iova_model.specs.Fit.{is_covered};
-ghost use Rattle.iova_tree.specs.Spans.{all_of, inserted_of, end_after, with_span, with_replaced, IsRisingFrom, Holds};
-ghost use Rattle.iova_tree.specs.Fit.{IsWanted, IsFound, taken, place_before, highest_between, highest_free};
+ghost use Rattle.iova_tree.specs.Spans.{all_of, inserted_of, end_after, room_after, with_span, with_replaced, IsRisingFrom, Holds};
+ghost use Rattle.iova_tree.specs.Fit.{IsWanted, IsFound, taken, highest_free};
 
 use crate::block::Block;
 use crate::branch::{Branch, MOST_ROOM};
 use crate::node::Node;
-use crate::search::{Found, Wanted, place_between, place_in};
+use crate::room::room_with;
+use crate::search::{Found, Wanted, place_in};
 use crate::span::Span;
 use std::alloc::{AllocError, Global};
 use std::marker::Model;
@@ -56,51 +57,20 @@ impl Ranges {
         self.root.end()
     }
 
-    // The place below the lowest range and above `start`.
+    // A bound for the room in a gap below one of the ranges and above `start`.
     #[inline]
-    fn place_before(&self, start: u64, wanted: &Wanted) -> Option<u64>
-        requires wanted { IsWanted wanted.now }
+    fn room_from(&self, start: u64) -> u32
+        requires some { 1 ≤ start }
         requires rising { IsRisingFrom start self.now }
-        ensures { result ≡ place_before wanted.now start self.now }
+        ensures { room_after start self.now ≤ result }
     {
-        if self.root.is_empty() {
-            return None;
-        }
-        place_between(start, self.root.first(), wanted)
-    }
-
-    // The highest place between two neighbours.
-    #[inline]
-    fn highest_between(&self, wanted: &Wanted) -> Option<u64>
-        requires wanted { IsWanted wanted.now }
-        requires rising { IsRisingFrom 0 self.now }
-        ensures { result ≡ highest_between wanted.now self.now }
-    {
-        if (self.room as u64) < wanted.size {
-            return None;
+        if self.room >= MOST_ROOM {
+            return self.room;
         }
         if self.root.is_empty() {
-            return None;
+            return self.room;
         }
-        self.root.highest(self.root.first(), wanted)
-    }
-
-    // Takes the highest place between two neighbours, where its block has room for a range.
-    #[inline]
-    fn take_between(&mut self, wanted: &Wanted) -> Found
-        requires wanted { IsWanted wanted.now }
-        requires rising { IsRisingFrom 1 self.old }
-        ensures { IsFound (highest_between wanted.now self.old) (self.new ≡ self.old)
-            (λ lo. self.new ≡ with_span (taken wanted.now lo) self.old) result }
-    {
-        if (self.room as u64) < wanted.size {
-            return Found::Nowhere;
-        }
-        if self.root.is_empty() {
-            return Found::Nowhere;
-        }
-        let first = self.root.first();
-        self.root.take(first, wanted, &mut self.room)
+        room_with(self.room, start, self.root.first())
     }
 
     /// Lets a range in, whose frames are free. It takes memory where a block is full; where that is
@@ -136,7 +106,7 @@ impl Ranges {
         self.room = MOST_ROOM;
     }
 
-    /// The highest place from `start` on: above all ranges, between two neighbours, or below all.
+    /// The highest place from `start` on: above all ranges, or in a gap below one of them.
     pub fn highest(&self, start: u64, wanted: &Wanted) -> Option<u64>
         requires wanted { IsWanted wanted.now }
         requires rising { IsRisingFrom start self.now }
@@ -145,14 +115,11 @@ impl Ranges {
         if let Some(at) = place_in(self.end_or(start), wanted.cap, wanted) {
             return Some(at);
         }
-        if let Some(at) = self.highest_between(wanted) {
-            return Some(at);
-        }
-        self.place_before(start, wanted)
+        self.root.highest(start, wanted)
     }
 
-    /// Takes the highest place from `start` on, where it lies between two ranges of a block that
-    /// has room for one more.
+    /// Takes the highest place from `start` on, where it lies below a range whose block has room
+    /// for one more.
     pub fn take_highest(&mut self, start: u64, wanted: &Wanted) -> Found
         requires wanted { IsWanted wanted.now }
         requires some { 1 ≤ start }
@@ -163,14 +130,11 @@ impl Ranges {
         if let Some(lo) = place_in(self.end_or(start), wanted.cap, wanted) {
             return Found::At(lo);
         }
-        match self.take_between(wanted) {
-            Found::Nowhere => {}
-            found => return found,
+        self.room = self.room_from(start);
+        if (self.room as u64) < wanted.size {
+            return Found::Nowhere;
         }
-        match self.place_before(start, wanted) {
-            Some(lo) => Found::At(lo),
-            None => Found::Nowhere,
-        }
+        self.root.take(start, wanted, &mut self.room)
     }
 
     /// Whether one of the ranges has the frame.

@@ -4,6 +4,9 @@ ghost use Rattle.iova_tree.specs.Room.{room, FitsBetween};
 
 use iova_range::limits::MAX_FRAMES;
 
+/// A gap of so many frames is long: where a bound is wanted, its room is computed (own: measured).
+const LONG_GAP: u64 = 64;
+
 /// The greatest size of a request, 1 to 1,048,576, that fits aligned into the frames from `from` on
 /// and below `until`; 0 where none does.
 ///
@@ -59,6 +62,21 @@ pub fn room_with(known: u32, from: u64, until: u64) -> u32
         Some(more) => more,
         None => known,
     }
+}
+
+/// No less than `known` and than the room of the frames from `from` on and below `until`. Of a
+/// gap that isn't long it is the number of its frames.
+#[inline]
+pub fn bound_with(known: u32, from: u64, until: u64) -> u32
+    requires some { 1 ≤ from }
+    requires apart { from ≤ until }
+    ensures { max known (room from until) ≤ result }
+{
+    let frames = until - from;
+    if frames < LONG_GAP {
+        return known.max(frames as u32);
+    }
+    room_with(known, from, until)
 }
 
 /// The place of the highest binary digit that is set.

@@ -1,5 +1,5 @@
 //! The highest place in a gap.
-ghost use Rattle.std.specs.Prelude.{◌≡◌, ◌+◌, ◌<◌, ◌≤◌, ◌⊎◌, min, max};
+ghost use Rattle.std.specs.Prelude.{◌≡◌, ◌+◌, ◌<◌, ◌≤◌, ◌-◌, ◌⊎◌, min, max};
 ghost use Rattle.std.specs.Int.{IsPowerOfTwo};
 ghost use Rattle.iova_tree.specs.Fit.{place, IsWanted};
 
@@ -61,6 +61,18 @@ impl Hint {
         Hint {
             at: len - 1,
             above: 0,
+        }
+    }
+
+    /// What is known once the thing at this place is gone: those above it have moved down, and what
+    /// lies below the lowest of these has changed.
+    #[inline]
+    pub fn without(self, at: usize) -> Hint
+        ensures { result ≡ record { at = max (self.at - 1) at; above = self.above } }
+    {
+        Hint {
+            at: self.at.saturating_sub(1).max(at),
+            above: self.above,
         }
     }
 

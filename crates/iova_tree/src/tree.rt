@@ -97,10 +97,11 @@ impl Tree {
     /// Allocates the frames that `highest` finds, and gives them: `highest` and `insert` in one way
     /// down, where a block has room. None where nothing fits; `NoMemory` leaves the tree as it was.
     ///
-    /// The search begins where the last one found room, where nothing behind that place has so much;
-    /// else at the highest. A bound that is too great costs it one way down, once. Those of blocks
-    /// are the least there is, unless a gap above the block has as much room, so a call is misled by
-    /// branches alone: some 40 us beside 100,000 ranges.
+    /// The search begins where the last one found room, where nothing behind that place has so
+    /// much; else at the highest. A bound that is too great costs it one way down, once. That of a
+    /// block is the least there is, but where its branch has no block behind it or one of its
+    /// windows grew; those of branches may be greater. Beside 100,000 ranges a call is misled for
+    /// some 40 us.
     pub fn take(&mut self, size: u64, limit: u64) -> Result<Option<Range>, Refusal>
         requires some { 1 ≤ size }
         requires bounded { size ≤ MAX_FRAMES }

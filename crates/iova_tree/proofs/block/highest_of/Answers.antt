@@ -28,11 +28,11 @@ returns-in-Some-clause-place c =
     goes_in c.args.wanted.now c.args.from c.args.spans.now c.loop-at.at c.in-Some.place c.index-spans-at.result c.index-spans-at-in-loop-at.result c.requires.wanted c.requires.rising (omega (arith, c.loop-at-test.true)) c.loop-at.invariant.0 c.index-spans-at.is c.index-spans-at-in-loop-at.is
     (rw (← c.end-end.ensures, ← c.lo-lo.ensures) (sym c.place_between.ensures ∙ c.in-Some.is)) (returns-in-Some-clause-found c)
 
-pub room_with-above-requires-clause-some : goal.room_with-above-requires-clause-some
-room_with-above-requires-clause-some c = rw c.end-end.ensures (some_end c.args.from c.args.spans.now (c.loop-at.at - 1) c.index-spans-at.result c.requires.rising (omega (arith, c.loop-at.invariant.0, c.loop-at-test.true)) c.index-spans-at.is)
+pub bound_with-above-requires-clause-some : goal.bound_with-above-requires-clause-some
+bound_with-above-requires-clause-some c = rw c.end-end.ensures (some_end c.args.from c.args.spans.now (c.loop-at.at - 1) c.index-spans-at.result c.requires.rising (omega (arith, c.loop-at.invariant.0, c.loop-at-test.true)) c.index-spans-at.is)
 
-pub room_with-above-requires-clause-apart : goal.room_with-above-requires-clause-apart
-room_with-above-requires-clause-apart c =
+pub bound_with-above-requires-clause-apart : goal.bound_with-above-requires-clause-apart
+bound_with-above-requires-clause-apart c =
     rw (c.end-end.ensures, c.lo-lo.ensures) (apart_at c.args.from c.args.spans.now c.loop-at.at c.index-spans-at-in-loop-at.result c.index-spans-at.result c.requires.rising (omega (arith, c.loop-at-test.true)) c.loop-at.invariant.0 c.index-spans-at-in-loop-at.is c.index-spans-at.is)
 
 pub loop-at-preserved : goal.loop-at-preserved
@@ -41,7 +41,7 @@ loop-at-preserved c =
     let n = highest_step c.args.wanted.now c.args.from c.loop-at.at c.args.spans.now c.index-spans-at-in-loop-at.result c.index-spans-at.result some c.loop-at.invariant.0 c.index-spans-at-in-loop-at.is c.index-spans-at.is in
     let m = rw (← c.end-end.ensures, ← c.lo-lo.ensures, ← c.place_between.ensures, c.in_default.is) at n in
     let r = room_step c.loop-at.at c.args.spans.now c.index-spans-at-in-loop-at.result c.index-spans-at.result some c.loop-at.invariant.0 c.index-spans-at-in-loop-at.is c.index-spans-at.is in
-    let e = rw (c.end-end.ensures, c.lo-lo.ensures) at c.room_with-above.ensures in
+    let e = rw (c.end-end.ensures, c.lo-lo.ensures) at c.bound_with-above.ensures in
     (omega (arith, c.loop-at.invariant.0), sym m ∙ c.loop-at.invariant.1, omega (arith, r, e, c.loop-at.invariant.2))
 
 pub returns-clause-found : goal.returns-clause-found

@@ -22,7 +22,7 @@ pub hint_once_taken-self-inside-requires-clause-rising : goal.hint_once_taken-se
 hint_once_taken-self-inside-requires-clause-rising c =
     let i = comes_in c.args.wanted.now c.args.from c.self.inside.spans.items c.in-Some.lo c.requires.wanted (rw c.self.view_is c.requires.rising) (rw (sym c.deref.ensures.value) (c.highest_of-found.ensures.found ∙ c.in-Some.is)) in
     let place = rw (c.deref.ensures.value, c.in-Some.is) at c.highest_of-found.ensures.place in
-    rw (c.deref-3.ensures.value, c.in-Ok.ensures.items, c.new-span.ensures, place) (rising-weaken 0 c.args.from _ (omega arith) i.rising)
+    rw (c.deref-2.ensures.value, c.in-Ok.ensures.items, c.new-span.ensures, place) (rising-weaken 0 c.args.from _ (omega arith) i.rising)
 
 pub hint_once_taken-self-inside-requires-clause-hinted : goal.hint_once_taken-self-inside-requires-clause-hinted
 hint_once_taken-self-inside-requires-clause-hinted c =
@@ -30,17 +30,17 @@ hint_once_taken-self-inside-requires-clause-hinted c =
     let j : at + 1 ≡ suc at = omega arith in
     let lt = rw c.deref.ensures.value at c.highest_of-found.ensures.within in
     let h = rw c.deref.ensures.value at c.highest_of-found.ensures.hinted in
-    rw (c.deref-3.ensures.value, c.in-Ok.ensures.items, j, drop_inserted at c.self.inside.spans.items c.new-span.result (omega (arith, lt))) h
+    rw (c.deref-2.ensures.value, c.in-Ok.ensures.items, j, drop_inserted at c.self.inside.spans.items c.new-span.result (omega (arith, lt))) h
 
 pub room_once_taken-requires-clause-rising : goal.room_once_taken-requires-clause-rising
 room_once_taken-requires-clause-rising c =
     let i = comes_in c.args.wanted.now c.args.from c.self.inside.spans.items c.in-Some.lo c.requires.wanted (rw c.self.view_is c.requires.rising) (rw (sym c.deref.ensures.value) (c.highest_of-found.ensures.found ∙ c.in-Some.is)) in
     let place = rw (c.deref.ensures.value, c.in-Some.is) at c.highest_of-found.ensures.place in
-    rw (c.deref-4.ensures.value, c.in-Ok.ensures.items, c.new-span.ensures, place) i.rising
+    rw (c.deref-3.ensures.value, c.in-Ok.ensures.items, c.new-span.ensures, place) i.rising
 
 pub room_once_taken-requires-clause-known : goal.room_once_taken-requires-clause-known
 room_once_taken-requires-clause-known c =
     let i = comes_in c.args.wanted.now c.args.from c.self.inside.spans.items c.in-Some.lo c.requires.wanted (rw c.self.view_is c.requires.rising) (rw (sym c.deref.ensures.value) (c.highest_of-found.ensures.found ∙ c.in-Some.is)) in
     let place = rw (c.deref.ensures.value, c.in-Some.is) at c.highest_of-found.ensures.place in
     let known = rw (sym c.self.view_is) at c.requires.room in
-    rw (c.deref-4.ensures.value, c.in-Ok.ensures.items, c.new-span.ensures, place) (omega (arith, i.room, known))
+    rw (c.deref-3.ensures.value, c.in-Ok.ensures.items, c.new-span.ensures, place) (omega (arith, i.room, known))

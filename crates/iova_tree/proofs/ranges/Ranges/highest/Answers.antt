@@ -1,10 +1,14 @@
-use Rattle.std.proofs.Common.{arith}
-use Rattle.iova_tree.proofs.Spans.{rising-weaken}
+use Rattle.std.proofs.Common.{◌≡◌, ◌∙◌, None, sym}
+use Rattle.iova_tree.specs.Spans.{end_after}
+use Rattle.iova_tree.specs.Fit.{place}
 use Rattle.iova_tree.proofs.Fits.{wanted_power}
 use Rattle.iova_tree.proofs.ranges.Ranges.highest.Goals as goal
 
 pub place_in-requires : goal.place_in-requires
 place_in-requires c = wanted_power _ c.requires.wanted
 
-pub highest_between-requires-clause-rising : goal.highest_between-requires-clause-rising
-highest_between-requires-clause-rising c = rising-weaken 0 c.args.start _ (omega arith) c.requires.rising
+pub returns : goal.returns
+returns c =
+    let above : place (end_after c.args.start c.args.self.now) c.args.wanted.now.cap c.args.wanted.now ≡ None = rw c.end_or.ensures at (sym c.place_in.ensures ∙ c.in_default.is) in
+    let found = rw c.self.view_is at c.highest.ensures in
+    rw above found
