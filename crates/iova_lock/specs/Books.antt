@@ -12,7 +12,9 @@ use Rattle.iova_model.specs.State.{State, new_domain}
 use Rattle.iova_model.specs.Valid.{Rises}
 use Rattle.iova_clients.specs.Orders.{AppendsInAnyOrder}
 use Rattle.iova_keep.specs.Views.{SeatState, TallyState, IsKept}
+use Rattle.iova_keep.specs.Events.{Event}
 use Rattle.iova_keep.specs.StepLogs.{StepLog, IsRecorded}
+use Rattle.iova_keep.specs.Stored.{DoesAndStores}
 
 -- A book: its domain's number, whether it is strict, its domain, and its log; and the totals of its
 -- four ledgers, which are the sums of the shares that all seats and tallies keep.
@@ -32,6 +34,10 @@ pub record SharedState : Type 0 where
   pub workers : ℕ
   pub seats : ℕ
   pub begun : BookState
+
+-- what a call does to the domain of the book and stores in its log, of what is allowed of it
+abbrev pub DoesInBook : (List Event → Type 0) → BookState → BookState → Type 0
+DoesInBook Allowed old new = DoesAndStores Allowed old.log new.log old.state new.state
 
 -- how many steps are recorded
 abbrev pub steps_in : Option StepLog → ℕ

@@ -11,8 +11,7 @@ ghost use Rattle.iova_model.specs.Effects.{MovesTotals, IsReplyTo, ended_well, t
 ghost use Rattle.iova_keep.specs.Steps.{Takes, IsGivenWithin, IsDrainReply};
 ghost use Rattle.iova_keep.specs.StepLogs.{StepLog, StoresStep, IsRecorded, is_recording, new_log};
 ghost use Rattle.iova_keep.specs.Events.{Does, Unmapping, IsShort, Closing, Draining, rings_from};
-ghost use Rattle.iova_keep.specs.Stored.{DoesAndStores};
-ghost use Rattle.iova_lock.specs.Books.{BookState, IsSame, AppendsNewer, HoldsInOrder, by_seat, by_tally, new_book, steps_in, IsBook};
+ghost use Rattle.iova_lock.specs.Books.{BookState, DoesInBook, IsSame, AppendsNewer, HoldsInOrder, by_seat, by_tally, new_book, steps_in, IsBook};
 ghost use Rattle.iova_keep.specs.Views.{AreBlanksOf, TallyState, SeatState, Covers, IsWorker, new_seats, seats_in_turn, left_of, stat_of, IsLowered, IsCloseHeard, IsKept, MovesSharesAlone};
 
 use iova_core::domain::Domain;
@@ -465,8 +464,7 @@ impl<B: Names> Book<B> {
         requires by_seat { by_seat step ≡ true }
         requires worker { worker_of step ≡ Some seat.old.worker }
         ensures does { Does (Unmapping step seat.old.held result) self.old.state self.new.state }
-        ensures runs { DoesAndStores (Unmapping step seat.old.held result) self.old.log
-            self.new.log self.old.state self.new.state }
+        ensures runs { DoesInBook (Unmapping step seat.old.held result) self.old self.new }
         ensures same { IsSame self.old self.new }
         ensures kind { (result ≡ Reply.Refused Refusal.NotHeld) ⊎ IsReplyTo step result }
         ensures known { result ≢ Reply.Refused Refusal.NoWorker }
@@ -480,8 +478,8 @@ impl<B: Names> Book<B> {
     }
 
     /// Whether the seat's shares cover what a step of its worker would queue. They do where they
-    /// are at least the worker's share of the domain's totals; only where they aren't the range is
-    /// sought.
+    /// are at least the worker's share of the domain's totals; only where they are less the range
+    /// is sought.
     #[inline(always)]
     fn covers_step(&self, seat: &Seat<B>, step: Step) -> bool
         requires { worker_of step ≡ Some seat.now.worker }
@@ -517,8 +515,8 @@ impl<B: Names> Book<B> {
 
     /// Closes the client, range by range, until a step queues none, and answers that step's reply.
     pub(crate) fn close_all(&mut self, seat: &mut Seat<B>, id: u64) -> Reply
-        ensures closes { DoesAndStores (Closing (Step.CloseOne seat.old.worker id) seat.old.held
-            seat.new.held result) self.old.log self.new.log self.old.state self.new.state }
+        ensures closes { DoesInBook (Closing (Step.CloseOne seat.old.worker id) seat.old.held
+            seat.new.held result) self.old self.new }
         ensures shares { (ranges : List Frames) × IsLowered ranges seat.old.held seat.new.held }
         ensures heard { IsCloseHeard (Some result) }
         ensures same { IsSame self.old self.new }
@@ -539,8 +537,7 @@ impl<B: Names> Book<B> {
         requires few { ring + left ≤ MAX_WORKERS }
         requires rings { ring + left ≡ B.ledgers.workers }
         requires worker { IsWorker B.ledgers by }
-        ensures drains { DoesAndStores (Draining by (rings_from ring left) result) self.old.log
-            self.new.log self.old.state self.new.state }
+        ensures drains { DoesInBook (Draining by (rings_from ring left) result) self.old self.new }
         ensures bound { result ≤ MAX_ENTRIES * left }
         ensures same { IsSame self.old self.new }
     {
