@@ -548,7 +548,7 @@ at_home home lo h bs b r at lt is found =
     find_in_order home lo h bs at ∙ (sought_at lo h bs lt some ∙ (ap (λ b. find (begins_at lo) b) here ∙ found))
 
 pub not_at_home : (home : ℕ → ℕ) (lo h n : ℕ) (bs : List (List Frames)) (s : List ℕ) (b : List Frames) → h ≡ home lo → h < length bs → b ≡ get_or bs h b → AreStrays home bs s → h < length s → n ≡ get_or s h n → n ≤ 0 → find (begins_at lo) b ≡ None → find (begins_at lo) (in_order home bs) ≡ None
-not_at_home home lo h n bs s b at lt is away within number zero_here none =
+not_at_home home lo h n bs s b at lt is away within number no_stray none =
     let nothing : get_or s h 0 ≡ 0 = get_or_default s h 0 n within ∙ (sym number ∙ (let e : n ≡ 0 = omega arith in e)) in
     find_in_order home lo h bs at ∙ (alone home lo h bs s at lt away nothing ∙ (ap (λ b. find (begins_at lo) b) (bucket_at bs h b lt is) ∙ none))
 

@@ -74,14 +74,14 @@ mapped_twice = refl
 a_use_changes_nothing : stage_of (Use (at 8 4) ∷ unmapped) 8 ≡ Stale 3
 a_use_changes_nothing = refl
 
-flushed_at_once : stage_of (Flush None ∷ unmapped) 8 ≡ Free
-flushed_at_once = refl
+a_short_flush : stage_of (Flush None ∷ unmapped) 8 ≡ Free
+a_short_flush = refl
 
-flushed_at_once_of_its_frames_alone : stage_of (Flush (Some (at 9 100)) ∷ unmapped) 8 ≡ Stale 3
-flushed_at_once_of_its_frames_alone = refl
+a_short_flush_of_its_frames_alone : stage_of (Flush (Some (at 9 100)) ∷ unmapped) 8 ≡ Stale 3
+a_short_flush_of_its_frames_alone = refl
 
-flushed_at_once_before_the_unmap : stage_of (Unmap (at 8 2) ∷ Flush None ∷ Map (at 8 4) ∷ []) 8 ≡ Stale 3
-flushed_at_once_before_the_unmap = refl
+a_short_flush_before_the_unmap : stage_of (Unmap (at 8 2) ∷ Flush None ∷ Map (at 8 4) ∷ []) 8 ≡ Stale 3
+a_short_flush_before_the_unmap = refl
 
 other_lines_change_nothing : stage_of (Other Plain ∷ unmapped) 8 ≡ Stale 3
 other_lines_change_nothing = refl

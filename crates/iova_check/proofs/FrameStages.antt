@@ -155,7 +155,7 @@ none_after : (e : Event) (past : List Event) (f begun ended : ℕ) → next_line
 none_after e past f begun ended lt (inl flush) =
     both_ways (is_line (begins flush.number f) (e ∷ past) begun) (after_newest (begins flush.number f) e past begun lt) flush.starts
 none_after e past f begun ended lt (inr flush) =
-    both_ways (is_line (flushes f) (e ∷ past) ended) (after_newest (flushes f) e past ended (omega (arith, flush.at_once))) flush.line
+    both_ways (is_line (flushes f) (e ∷ past) ended) (after_newest (flushes f) e past ended (omega (arith, flush.in_one_line))) flush.line
 
 taken_now : (e : Event) (past : List Event) (f n : ℕ) → unmaps f e ≡ true → IsMappedSince past f n → IsStaleSince (e ∷ past) f (next_line past)
 taken_now e past f n is h = record {
@@ -316,26 +316,26 @@ ended_well past f number (Some flight) s is h =
 
 -- A whole flush at one line
 
-freed_at_once : (past : List Event) (f : ℕ) (range : Option Frames) (s : Stage) → has f range ≡ true
+freed_by_short_flush : (past : List Event) (f : ℕ) (range : Option Frames) (s : Stage) → has f range ≡ true
     → IsStage past f s → IsStage (event.Flush range ∷ past) f (with_change (change.Flushed (next_line past)) s)
-freed_at_once past f range stage.Free having h = free_kept (event.Flush range) past f refl h
-freed_at_once past f range (stage.Mapped n) having h = mapped_kept (event.Flush range) past f n refl refl h
-freed_at_once past f range (stage.Stale n) having h =
+freed_by_short_flush past f range stage.Free having h = free_kept (event.Flush range) past f refl h
+freed_by_short_flush past f range (stage.Mapped n) having h = mapped_kept (event.Flush range) past f n refl refl h
+freed_by_short_flush past f range (stage.Stale n) having h =
     let e = event.Flush range in
     let P : Stage → Type 0 = IsStage (e ∷ past) f in
     let before : n < next_line past = line_bound (unmaps f) past n h.takes_back.unmapped in
-    let flush : IsShortFlush (e ∷ past) f (next_line past) (next_line past) = record { line = line_new (flushes f) e past ∙ having; at_once = refl } in
+    let flush : IsShortFlush (e ∷ past) f (next_line past) (next_line past) = record { line = line_new (flushes f) e past ∙ having; in_one_line = refl } in
     subst P (sym (cond-true (nat_lt n (next_line past)) stage.Free (stage.Stale n) (lt-ltb n (next_line past) before)))
     (freed_by e past f n (next_line past) refl refl before (inr flush) h)
 
-flushed_at_once : (past : List Event) (f : ℕ) (range : Option Frames) (s : Stage) → IsStage past f s
+flushed_by_short_flush : (past : List Event) (f : ℕ) (range : Option Frames) (s : Stage) → IsStage past f s
     → IsStage (event.Flush range ∷ past) f (flushed_by (Some (record { line = next_line past; range = range })) f s)
-flushed_at_once past f range s h =
+flushed_by_short_flush past f range s h =
     let e = event.Flush range in
     let P : Stage → Type 0 = IsStage (e ∷ past) f in
     let freed_stage = with_change (change.Flushed (next_line past)) s in
     elim (cases_Bool (has f range)) [
-      | inl so ↦ subst P (sym (cond-true (has f range) freed_stage s so)) (freed_at_once past f range s so h)
+      | inl so ↦ subst P (sym (cond-true (has f range) freed_stage s so)) (freed_by_short_flush past f range s so h)
       | inr not ↦ subst P (sym (cond-false (has f range) freed_stage s not)) (stage_kept e past f s refl refl (λ number. refl) not h)
     ]
 
@@ -365,7 +365,7 @@ stage_is (event.Use r ∷ past) f = stage_kept (event.Use r) past f (stage_of pa
 stage_is (event.Begin number range ∷ past) f = stage_kept (event.Begin number range) past f (stage_of past f) refl refl (λ number. refl) refl (stage_is past f)
 stage_is (event.End number true ∷ past) f = ended_well past f number (flight_of past number) (stage_of past f) (flight_is past number) (stage_is past f)
 stage_is (event.End number false ∷ past) f = stage_kept (event.End number false) past f (stage_of past f) refl refl (λ number. refl) refl (stage_is past f)
-stage_is (event.Flush range ∷ past) f = flushed_at_once past f range (stage_of past f) (stage_is past f)
+stage_is (event.Flush range ∷ past) f = flushed_by_short_flush past f range (stage_of past f) (stage_is past f)
 stage_is (event.Other what ∷ past) f = stage_kept (event.Other what) past f (stage_of past f) refl refl (λ number. refl) refl (stage_is past f)
 
 pub stages_are_told : StagesAreTold

@@ -85,7 +85,7 @@ flush_more e past f begun ended (inl h) =
       in_order = h.in_order;
       alone = between_more _ e past begun ended (omega arith) h.alone;
     })
-flush_more e past f begun ended (inr h) = inr (record { line = line_more (flushes f) e past ended h.line; at_once = h.at_once })
+flush_more e past f begun ended (inr h) = inr (record { line = line_more (flushes f) e past ended h.line; in_one_line = h.in_one_line })
 
 pub flush_less : (e : Event) (past : List Event) (f begun ended : ℕ) → ended < next_line past → IsFlush (e ∷ past) f begun ended → IsFlush past f begun ended
 flush_less e past f begun ended below (inl h) =
@@ -97,7 +97,7 @@ flush_less e past f begun ended below (inl h) =
       in_order = h.in_order;
       alone = between_less _ e past begun ended (omega arith) h.alone;
     })
-flush_less e past f begun ended below (inr h) = inr (record { line = sym (line_old (flushes f) e past ended below) ∙ h.line; at_once = h.at_once })
+flush_less e past f begun ended below (inr h) = inr (record { line = sym (line_old (flushes f) e past ended below) ∙ h.line; in_one_line = h.in_one_line })
 
 pub takes_more : (e : Event) (past : List Event) (f n : ℕ) → TakesBack past f n → TakesBack (e ∷ past) f n
 takes_more e past f n h =

@@ -101,7 +101,7 @@ pub record IsLongFlush (past : List Event) (f begun ended : ℕ) : Type 0 where
 -- a flush that one line tells: it begins and ends there
 pub record IsShortFlush (past : List Event) (f begun ended : ℕ) : Type 0 where
   pub line : IsLine (flushes f) past ended
-  pub at_once : begun ≡ ended
+  pub in_one_line : begun ≡ ended
 
 abbrev pub IsFlush : List Event → ℕ → ℕ → ℕ → Type 0
 IsFlush past f begun ended = IsLongFlush past f begun ended ⊎ IsShortFlush past f begun ended

@@ -118,15 +118,15 @@ only_entry : (at : ℕ → ℕ) (size n : ℕ) (links : List ℕ) (p c e b f d :
     → IsEntry at size n f c d → p < d → get_or links f 0 ≤ p + 1 → e ≡ f
 only_entry at size n links p c e b f d few h ee pb el ff pd fl =
     by_either ee
-    (λ e_here. by_either ff
-    (λ f_here. by_either (cases_lt e f)
-    (λ lt. absurd ((h.each f c d ff).none e (omega (arith, fl, pb, e_here.2)) (omega (arith, lt, f_here.2)) (sym e_here.1)))
+    (λ e_place. by_either ff
+    (λ f_place. by_either (cases_lt e f)
+    (λ lt. absurd ((h.each f c d ff).none e (omega (arith, fl, pb, e_place.2)) (omega (arith, lt, f_place.2)) (sym e_place.1)))
     (λ ge. by_either (cases_eq e f) (λ is. is)
-    (λ ne. absurd ((h.each e c b ee).none f (omega (arith, el, pd, f_here.2)) (omega (arith, ge, ne, e_here.2)) (sym f_here.1)))))
-    (λ f_here. absurd ((h.each f c d ff).none e (omega (arith, fl, pb, e_here.2)) (omega (arith, e_here.0, f_here.2)) (sym e_here.1))))
-    (λ e_here. by_either ff
-    (λ f_here. absurd ((h.each e c b ee).none f (omega (arith, el, pd, f_here.2)) (omega (arith, f_here.0, e_here.2)) (sym f_here.1)))
-    (λ f_here. e_here.0 ∙ sym f_here.0))
+    (λ ne. absurd ((h.each e c b ee).none f (omega (arith, el, pd, f_place.2)) (omega (arith, ge, ne, e_place.2)) (sym f_place.1)))))
+    (λ f_chain. absurd ((h.each f c d ff).none e (omega (arith, fl, pb, e_place.2)) (omega (arith, e_place.0, f_chain.2)) (sym e_place.1))))
+    (λ e_chain. by_either ff
+    (λ f_place. absurd ((h.each e c b ee).none f (omega (arith, el, pd, f_place.2)) (omega (arith, f_place.0, e_chain.2)) (sym f_place.1)))
+    (λ f_chain. e_chain.0 ∙ sym f_chain.0))
 
 -- an entry is of one chain
 pub entry_same : (at : ℕ → ℕ) (size n e c b d f : ℕ) → n ≤ size → IsEntry at size n e c b → IsEntry at size n e d f → (c ≡ d) × (b ≡ f)

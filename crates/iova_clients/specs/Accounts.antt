@@ -7,7 +7,7 @@ use Rattle.iova_clients.specs.Registry.{is_serial}
 
 -- What `Holdings` are seen as: ranges that rise by first frame, how many more fit without memory,
 -- and whether their client is closing
-pub record Row : Type 0 where
+pub record HoldingsState : Type 0 where
   pub ranges : List Frames
   pub spare : ℕ
   pub closing : Bool

@@ -35,11 +35,11 @@ pub(crate) struct Holdings {
 
 impl Model for Holdings {
     ghost use Rattle.std.specs.Prelude.{◌-◌, vec_len};
-    ghost use Rattle.iova_clients.specs.Accounts.{Row};
+    ghost use Rattle.iova_clients.specs.Accounts.{HoldingsState};
     ghost use Rattle.iova_clients.specs.Blocks.{IsBlock};
     ghost use Rattle.iova_clients.specs.Orders.{ordered};
 
-    ghost Value = { Row };
+    ghost Value = { HoldingsState };
 
     ghost view = { λ h. record {
       ranges = ordered h.cells.items h.count;

@@ -2,7 +2,7 @@
 use Rattle.std.proofs.Common.{ℕ, suc, ◌≡◌, ◌∙◌, ◌+◌, ◌-◌, ◌<◌, List, [], ◌∷◌, ◌++◌, Result, Ok, Err, ap, refl, sym, append_assoc, append-nil, length, length-append, arith}
 use Rattle.std.specs.Prelude.{OnOk}
 use Rattle.std.specs.declared.alloc.AllocError.{AllocError}
-use Rattle.iova_control.specs.Rows.{Row, row_text, rows_text, sessions_text, PutsRows, PutsSessions}
+use Rattle.iova_control.specs.Rows.{SessionRow, row_text, rows_text, sessions_text, PutsRows, PutsSessions}
 
 -- what follows from what holds where a call succeeds holds there
 pub ok_map : {P Q : Type 0} (r : Result Unit AllocError) → (P → Q) → OnOk r P → OnOk r Q
@@ -26,7 +26,7 @@ is_put_ok r old new x y put same = ok_map r (λ p. is_put old new x y p same) pu
 
 -- Sessions.
 
-rows_more : (worker : ℕ) (rows more : List Row) → rows_text worker (rows ++ more) ≡ rows_text worker rows ++ rows_text worker more
+rows_more : (worker : ℕ) (rows more : List SessionRow) → rows_text worker (rows ++ more) ≡ rows_text worker rows ++ rows_text worker more
 rows_more worker [] more = refl
 rows_more worker (r ∷ rows) more =
     ap (λ t. row_text worker r ++ t) (rows_more worker rows more) ∙ sym (append_assoc (row_text worker r) (rows_text worker rows) (rows_text worker more))
@@ -35,7 +35,7 @@ pub no_rows : (worker : ℕ) (text : List ℕ) → PutsRows worker 0 text text
 no_rows worker text = ([], refl, sym (append-nil text))
 
 -- a row more
-pub row_behind : (worker count : ℕ) (old mid new : List ℕ) (r : Row) → PutsRows worker count old mid → new ≡ mid ++ row_text worker r
+pub row_behind : (worker count : ℕ) (old mid new : List ℕ) (r : SessionRow) → PutsRows worker count old mid → new ≡ mid ++ row_text worker r
     → PutsRows worker (count + 1) old new
 row_behind worker count old mid new r (rows, long, put) is = (
   rows ++ r ∷ [],

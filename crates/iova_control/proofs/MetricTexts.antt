@@ -7,12 +7,12 @@ use Rattle.std.specs.declared.alloc.AllocError.{AllocError}
 use Rattle.iova_links.specs.declared.control_task.DaemonMetrics.{DaemonMetrics}
 use Rattle.iova_control.specs.declared.control.Facts.{Facts}
 use Rattle.iova_control.specs.declared.metrics.Numbers.{Numbers}
-use Rattle.iova_control.specs.Metrics.{Told, told_of, Counted, places_text, metrics_text, flush_metrics, daemon_metrics, wait_text, refusal_text, refusals_text, refusals_kind, program_text, PutsRefusals, PutsMetrics}
+use Rattle.iova_control.specs.Metrics.{NumberMetric, number_metric, DaemonCounts, places_text, metrics_text, flush_metrics, daemon_metrics, wait_text, refusal_text, refusals_text, refusals_kind, program_text, PutsRefusals, PutsMetrics}
 use Rattle.iova_control.proofs.Behind.{ok_map, behind}
 
 -- a metric more
-pub told_more : (f : Metric) (t : Told) (fs : List Metric) (ts : List Told) → told_of f ≡ t → map told_of fs ≡ ts → map told_of (f ∷ fs) ≡ t ∷ ts
-told_more f t fs ts is more = ap₂ (λ x xs. x ∷ xs) is more
+pub metric_more : (f : Metric) (t : NumberMetric) (fs : List Metric) (ts : List NumberMetric) → number_metric f ≡ t → map number_metric fs ≡ ts → map number_metric (f ∷ fs) ≡ t ∷ ts
+metric_more f t fs ts is more = ap₂ (λ x xs. x ∷ xs) is more
 
 -- a count that isn't 0 has its line
 pub refusal_some : (number n : ℕ) → (n ≡ 0 → ⊥)
@@ -38,7 +38,7 @@ refusals_behind r old mid new kind first then =
     ok_map r (λ from. (from.0, omega (arith, from.1), behind old mid new kind (refusals_text 1 from.0) first from.2)) then
 
 -- all metrics, part by part
-pub metrics_behind : (r : Result Unit AllocError) (f : Facts) (n : Numbers) (g : DaemonMetrics) (c : Counted) (counts : List ℕ) (a b d e h k : List ℕ)
+pub metrics_behind : (r : Result Unit AllocError) (f : Facts) (n : Numbers) (g : DaemonMetrics) (c : DaemonCounts) (counts : List ℕ) (a b d e h k : List ℕ)
     → b ≡ a ++ (places_text n ++ metrics_text (flush_metrics n)) → d ≡ b ++ metrics_text (daemon_metrics f c g) → e ≡ d ++ wait_text n.ring g.since_round
     → length counts ≡ MAX_REFUSAL → h ≡ e ++ (refusals_kind ++ refusals_text 1 counts) → OnOk r (k ≡ h ++ program_text f) → OnOk r (PutsMetrics f n g a k)
 metrics_behind r f n g c counts a b d e h k domain daemon wait long refusals program =

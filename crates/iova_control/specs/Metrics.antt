@@ -14,35 +14,35 @@ kind_text name kind help =
     ++ (codes "# TYPE " ++ (name ++ (codes " " ++ (kind ++ 10 ∷ []))))
 
 -- a metric of one number, as its lines have it
-pub record Told : Type 0 where
+pub record NumberMetric : Type 0 where
   pub name : List ℕ
   pub kind : List ℕ
   pub help : List ℕ
   pub number : ℕ
 
-abbrev pub told_of : Metric → Told
-told_of f =
+abbrev pub number_metric : Metric → NumberMetric
+number_metric f =
     record { name = f.name.now; kind = f.kind.now; help = f.help.now; number = f.number }
 
 -- a count that rises, and a number that rises and falls
-abbrev pub counter : List ℕ → List ℕ → ℕ → Told
+abbrev pub counter : List ℕ → List ℕ → ℕ → NumberMetric
 counter name help number =
     record { name = name; kind = codes "counter"; help = help; number = number }
 
-abbrev pub gauge : List ℕ → List ℕ → ℕ → Told
+abbrev pub gauge : List ℕ → List ℕ → ℕ → NumberMetric
 gauge name help number =
     record { name = name; kind = codes "gauge"; help = help; number = number }
 
-abbrev pub metric_text : Told → List ℕ
+abbrev pub metric_text : NumberMetric → List ℕ
 metric_text t =
     kind_text t.name t.kind t.help ++ (t.name ++ (codes " " ++ (decimal t.number ++ 10 ∷ [])))
 
-abbrev pub metrics_text : List Told → List ℕ
+abbrev pub metrics_text : List NumberMetric → List ℕ
 metrics_text [] = []
 metrics_text (t ∷ more) = metric_text t ++ metrics_text more
 
 -- what a daemon counted itself when it was asked
-pub record Counted : Type 0 where
+pub record DaemonCounts : Type 0 where
   pub failed : ℕ
   pub requests : ℕ
   pub allocs : ℕ
@@ -66,14 +66,14 @@ places_text n =
     ++ (place_line (codes "depot") n.depot
     ++ place_line (codes "ring") n.ring)))))
 
-abbrev pub flush_metrics : Numbers → List Told
+abbrev pub flush_metrics : Numbers → List NumberMetric
 flush_metrics n =
     counter (codes "iovad_flushes_begun_total") (codes "Flushes that have begun.") n.start
     ∷ counter (codes "iovad_flushes_ended_total") (codes "The finish count.") n.finish
     ∷ gauge (codes "iovad_flushes_owed") (codes "Failed flushes that none has made up for.") n.owed
     ∷ []
 
-abbrev pub daemon_metrics : Facts → Counted → DaemonMetrics → List Told
+abbrev pub daemon_metrics : Facts → DaemonCounts → DaemonMetrics → List NumberMetric
 daemon_metrics f c g =
     counter (codes "iovad_flushes_failed_total") (codes "Flushes that the sink failed.") c.failed
     ∷ gauge (codes "iovad_workers") (codes "Workers of the domain.") f.workers
@@ -116,7 +116,7 @@ refusal_text number (suc n) =
     codes "iovad_refusals_total{number=\"" ++ (decimal number ++ (codes "\"} "
     ++ (decimal (suc n) ++ 10 ∷ [])))
 
--- and by those behind it
+-- how many requests were refused by this number and by each of those behind it
 abbrev pub refusals_text : (number : ℕ) → List ℕ → List ℕ
 refusals_text number [] = []
 refusals_text number (n ∷ more) = refusal_text number n ++ refusals_text (suc number) more
@@ -163,7 +163,7 @@ program_text f =
 -- some counts.
 abbrev pub PutsMetrics : Facts → Numbers → DaemonMetrics → List ℕ → List ℕ → Type 0
 PutsMetrics f n g old new =
-    (c : Counted) × (refusals : List ℕ) × (length refusals ≡ MAX_REFUSAL)
+    (c : DaemonCounts) × (refusals : List ℕ) × (length refusals ≡ MAX_REFUSAL)
     × (new ≡ old ++ ((places_text n ++ metrics_text (flush_metrics n))
     ++ (metrics_text (daemon_metrics f c g)
     ++ (wait_text n.ring g.since_round

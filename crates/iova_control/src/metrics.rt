@@ -2,9 +2,9 @@
 ghost use Rattle.std.specs.Prelude.{◌≡◌, ◌≢◌, ◌++◌, ◌+◌, ◌≤◌, ◌∷◌, ℕ, List, None, IfSome, MatchOption, OnOk, false, length, map, true};
 ghost use Rattle.iova_range.specs.declared.limits.TheConstants.{MAX_REFUSAL};
 ghost use Rattle.iova_control.specs.declared.metrics.Numbers.{Numbers};
-ghost use Rattle.iova_control.specs.Metrics.{Counted, PutsMetrics, PutsRefusals};
+ghost use Rattle.iova_control.specs.Metrics.{DaemonCounts, PutsMetrics, PutsRefusals};
 ghost use Rattle.iova_control.specs.Metrics.{build_text, counter, daemon_metrics, metric_text, metrics_text, flush_metrics, gauge, kind_text, name_text, named_text};
-ghost use Rattle.iova_control.specs.Metrics.{place_line, places_text, program_text, refusal_text, refusals_kind, refusals_text, sink_text, told_of, wait_text, waited};
+ghost use Rattle.iova_control.specs.Metrics.{number_metric, place_line, places_text, program_text, refusal_text, refusals_kind, refusals_text, sink_text, wait_text, waited};
 ghost use Rattle.iova_control.specs.Reports.{AreNumbersOf, IsField, NumberIn, behind_spaces};
 
 use crate::control::{Facts, Pad};
@@ -178,7 +178,7 @@ fn put_daemon(
     metrics: DaemonMetrics,
     steps: u64,
 ) -> Result<(), AllocError>
-    ensures { OnOk result ((c : Counted) × (text.new.bytes.items ≡ text.old.bytes.items
+    ensures { OnOk result ((c : DaemonCounts) × (text.new.bytes.items ≡ text.old.bytes.items
         ++ metrics_text (daemon_metrics facts.now c metrics))) }
 {
     let (granule, served, freed) = (facts.granule, metrics.served, signals.frees());
@@ -335,7 +335,7 @@ fn put_named(text: &mut String, name: &str) -> Result<(), AllocError>
 
 /// A count that rises.
 fn counter(name: &'static str, help: &'static str, number: u64) -> Metric
-    ensures { told_of result ≡ counter name.now help.now number }
+    ensures { number_metric result ≡ counter name.now help.now number }
 {
     Metric {
         name,
@@ -347,7 +347,7 @@ fn counter(name: &'static str, help: &'static str, number: u64) -> Metric
 
 /// A number that rises and falls.
 fn gauge(name: &'static str, help: &'static str, number: u64) -> Metric
-    ensures { told_of result ≡ gauge name.now help.now number }
+    ensures { number_metric result ≡ gauge name.now help.now number }
 {
     Metric {
         name,
@@ -360,7 +360,7 @@ fn gauge(name: &'static str, help: &'static str, number: u64) -> Metric
 /// Puts these metrics into the text, one after another.
 fn put_all(text: &mut String, metrics: &[Metric]) -> Result<(), AllocError>
     ensures { OnOk result (text.new.bytes.items ≡ text.old.bytes.items
-        ++ metrics_text (map told_of metrics.now)) }
+        ++ metrics_text (map number_metric metrics.now)) }
 {
     let Some((metric, more)) = metrics.split_first() else {
         return Ok(());
@@ -372,7 +372,7 @@ fn put_all(text: &mut String, metrics: &[Metric]) -> Result<(), AllocError>
 /// Puts a metric into the text.
 fn put(text: &mut String, metric: Metric) -> Result<(), AllocError>
     ensures { OnOk result (text.new.bytes.items ≡ text.old.bytes.items
-        ++ metric_text (told_of metric)) }
+        ++ metric_text (number_metric metric)) }
 {
     let Metric {
         name,

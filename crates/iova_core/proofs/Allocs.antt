@@ -118,7 +118,7 @@ begins_itself r = let e : (r.lo == r.lo) ≡ true = grind (arith, nat_tests) in 
 
 -- The walk of a request that may be asked.
 module _ (p : Parts) (h : IsDomain p) (w id frames limit : ℕ) (c : Client) (asked : IsAsked (state_of p) w id frames c) (tree : Space) (cached : Cached) (f : Walked)
-    (comes : (s : State) → ArePartsOf p.tree p.cached.caches s → Comes (next.walk s w c.sac (need frames) limit (point_of f)) f cached.caches) (elsewhere : point_of f ≢ point.Ledger) (ex : Exchanges p.tree tree p.cached cached (placed_ranges f) []) where
+    (comes : (s : State) → ArePartsOf p.tree p.cached.caches s → Comes (next.walk s w c.sac (need frames) limit (point_of f)) f cached.caches) (not_at_ledger : point_of f ≢ point.Ledger) (ex : Exchanges p.tree tree p.cached cached (placed_ranges f) []) where
   stands : ArePartsOf p.tree p.cached.caches (state_of p)
   stands = record { bounds = refl; windows = refl; cached = refl; tied = h.tied }
 
@@ -137,7 +137,7 @@ module _ (p : Parts) (h : IsDomain p) (w id frames limit : ℕ) (c : Client) (as
       let t = next.walk s w c.sac (need frames) limit (point_of f) in
       let e = comes s stands in
       let state : t.state ≡ next.with_caches s cached.caches = (walk_walked s w c.sac (need frames) limit (point_of f)).is ∙ ap (λ x. next.with_caches s x) e.left in
-      alloc_walks s w id frames limit (point_of f) c asked.tests asked.client asked.room (not_ledger (point_of f) elsewhere)
+      alloc_walks s w id frames limit (point_of f) c asked.tests asked.client asked.room (not_ledger (point_of f) not_at_ledger)
       ∙ (ap (λ x. next.give x t.state id (need frames)) e.found ∙ ap (λ x. next.give (found_as f) x id (need frames)) state)
 
   -- Caches that were moved or emptied, and no more.

@@ -74,4 +74,4 @@ module _ (s : State) (w id frames limit : ℕ) where
 
   pub alloc_walks : (m : Point) (c : Client) → first_refusal (alloc_tests s w frames) ≡ None → client_of w id s.clients ≡ Some c → room_refusal_of c ≡ None → is_at point.Ledger m ≡ false
       → alloc s w id frames limit m ≡ give_from (walk s w c.sac (need frames) limit m) id (need frames)
-  alloc_walks m c is client room elsewhere = alloc_room m c is client room ∙ rw elsewhere refl
+  alloc_walks m c is client room not_at_ledger = alloc_room m c is client room ∙ rw not_at_ledger refl

@@ -94,18 +94,18 @@ emptied-takes o lo old new t =
 -- one more slot
 pub empty-more : (slot workers : ℕ) (c : Caches) → AreEmptyBelow slot workers c → ((w o : ℕ) → w < workers → o < 6 → w * 6 + o ≡ slot → AreEmpty (cache_at c w o))
     → ((o : ℕ) → o < 6 → workers * 6 + o ≡ slot → slice_index_or c.depots o [] ≡ []) → AreEmptyBelow (slot + 1) workers c
-empty-more slot workers c s here depot_here = record {
+empty-more slot workers c s magazines_empty depot_empty = record {
   magazines = λ w o w_lt o_lt below. at_worker w o w_lt o_lt below (cases_lt (w * 6 + o) slot);
   depots = λ o o_lt below. at_depot o o_lt below (cases_lt (workers * 6 + o) slot);
 }
   where
     at_worker : (w o : ℕ) → w < workers → o < 6 → w * 6 + o < slot + 1 → (w * 6 + o < slot) ⊎ (slot ≤ w * 6 + o) → AreEmpty (cache_at c w o)
     at_worker w o w_lt o_lt below (inl lt) = s.magazines w o w_lt o_lt lt
-    at_worker w o w_lt o_lt below (inr le) = here w o w_lt o_lt (omega arith)
+    at_worker w o w_lt o_lt below (inr le) = magazines_empty w o w_lt o_lt (omega arith)
 
     at_depot : (o : ℕ) → o < 6 → workers * 6 + o < slot + 1 → (workers * 6 + o < slot) ⊎ (slot ≤ workers * 6 + o) → slice_index_or c.depots o [] ≡ []
     at_depot o o_lt below (inl lt) = s.depots o o_lt lt
-    at_depot o o_lt below (inr le) = depot_here o o_lt (omega arith)
+    at_depot o o_lt below (inr le) = depot_empty o o_lt (omega arith)
 
 -- where all are, nothing is cached
 map_same : {A : Type 0} (f : A → A) (xs : List A) (d : A) → ((k : ℕ) → k < length xs → f (slice_index_or xs k d) ≡ slice_index_or xs k d) → map f xs ≡ xs

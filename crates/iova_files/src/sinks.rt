@@ -106,7 +106,7 @@ impl<'a> SinkPlace<'a> {
     }
 
     /// This place, at which nobody waits for a peer that isn't there.
-    pub fn at_once(self) -> SinkPlace<'a>
+    pub fn without_wait(self) -> SinkPlace<'a>
         ensures { result ≡ record self.entry { wait = 0 } }
     {
         SinkPlace { wait: 0, ..self }

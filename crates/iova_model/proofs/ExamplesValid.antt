@@ -164,14 +164,14 @@ no_holding_that_is_not_aligned p = absurd (cc p.aligned)
 abbrev pair : Step → Reply → Pair
 pair step reply = record { step = step; point = Never; reply = reply }
 
--- unmapped and given at once
-abbrev given_at_once : List Pair
-given_at_once = pair (Unmap 0 1 9) (Queued (at 9 1)) ∷ pair (Alloc 0 1 1 9) (Given (at 9 1)) ∷ []
+-- unmapped, and given again without a flush
+abbrev given_unflushed : List Pair
+given_unflushed = pair (Unmap 0 1 9) (Queued (at 9 1)) ∷ pair (Alloc 0 1 1 9) (Given (at 9 1)) ∷ []
 
-no_reuse_at_once : ReuseLaw given_at_once → ⊥
-no_reuse_at_once law = never (law 0 1 9 (omega arith) (record { pair = pair (Unmap 0 1 9) (Queued (at 9 1)); is = refl; unmaps = refl }) (record { pair = pair (Alloc 0 1 1 9) (Given (at 9 1)); is = refl; gives = refl }))
+no_reuse_unflushed : ReuseLaw given_unflushed → ⊥
+no_reuse_unflushed law = never (law 0 1 9 (omega arith) (record { pair = pair (Unmap 0 1 9) (Queued (at 9 1)); is = refl; unmaps = refl }) (record { pair = pair (Alloc 0 1 1 9) (Given (at 9 1)); is = refl; gives = refl }))
   where
-    never : IsFlushedBetween given_at_once 0 1 → ⊥
+    never : IsFlushedBetween given_unflushed 0 1 → ⊥
     never f = let order : f.began < f.done = f.whole.order in let later : 0 < f.began = f.later in let earlier : f.done < 1 = f.earlier in absurd (omega arith)
 
 -- the flush began before the unmap

@@ -46,8 +46,8 @@ hands_more a b c xs ys p q = record {
 }
 
 -- by a channel that never receives ahead
-pub hands_at_once : (old new : Talk) (bytes : List ℕ) → old.ahead ≡ [] → new.ahead ≡ [] → new.passed ≡ with_received_bytes old.passed bytes → new.connected ≡ old.connected → HandsOn old new bytes
-hands_at_once old new bytes none left is still = record {
+pub hands_none_ahead : (old new : Talk) (bytes : List ℕ) → old.ahead ≡ [] → new.ahead ≡ [] → new.passed ≡ with_received_bytes old.passed bytes → new.connected ≡ old.connected → HandsOn old new bytes
+hands_none_ahead old new bytes none left is still = record {
   more = bytes;
   passed = is;
   order = ap (λ (x : List ℕ). x ++ bytes) none ∙ (sym (append-nil bytes) ∙ ap (λ (x : List ℕ). bytes ++ x) (sym left));
@@ -84,8 +84,8 @@ answered_by a b c anew request answer p h = record {
 
 -- A connection made ready
 
-pub cut_at_once : (old new : Talk) (last : List Passed) → new.passed ≡ old.passed ++ last → IsFailure last → (request : List ℕ) → IsCutOff old new request
-cut_at_once old new last is failed request = record {
+pub cut_off_unsent : (old new : Talk) (last : List Passed) → new.passed ≡ old.passed ++ last → IsFailure last → (request : List ℕ) → IsCutOff old new request
+cut_off_unsent old new last is failed request = record {
   anew = false;
   front = [];
   last = last;
@@ -96,14 +96,14 @@ cut_at_once old new last is failed request = record {
 
 pub readies_from_connects : (old new : Talk) (r : Result Unit ChannelFault) → Connects old new r → Readies old new r
 readies_from_connects old new (Ok u) e = (true, e)
-readies_from_connects old new (Err f) e = cut_at_once old new (passed.Failed ∷ []) (ap (λ (t : Talk). t.passed) e) (inl refl)
+readies_from_connects old new (Err f) e = cut_off_unsent old new (passed.Failed ∷ []) (ap (λ (t : Talk). t.passed) e) (inl refl)
 
 pub readies_by_failure : (old new : Talk) → new ≡ with_failure old → (request : List ℕ) → IsCutOff old new request
-readies_by_failure old new e = cut_at_once old new (passed.Failed ∷ []) (ap (λ (t : Talk). t.passed) e) (inl refl)
+readies_by_failure old new e = cut_off_unsent old new (passed.Failed ∷ []) (ap (λ (t : Talk). t.passed) e) (inl refl)
 
 pub readies_by_stray : (old new : Talk) (s : Incoming) → s ≡ incoming.Bytes → Looks old new (Ok s) → (request : List ℕ) → IsCutOff old new request
 readies_by_stray old new incoming.Nothing is e = absurd (let no = is in cc)
-readies_by_stray old new incoming.Bytes is e = cut_at_once old new (passed.Strayed ∷ []) (ap (λ (t : Talk). t.passed) e) (inr refl)
+readies_by_stray old new incoming.Bytes is e = cut_off_unsent old new (passed.Strayed ∷ []) (ap (λ (t : Talk). t.passed) e) (inr refl)
 readies_by_stray old new incoming.End is e = absurd (let no = is in cc)
 
 pub readies_behind_end : (old middle new : Talk) (s : Incoming) (r : Result Unit ChannelFault) → s ≡ incoming.End → Looks old middle (Ok s) → Connects middle new r → Readies old new r

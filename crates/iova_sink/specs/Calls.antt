@@ -27,12 +27,12 @@ abbrev pub calls_after : Option (Snapshot (List Call)) → Call → List Call
 calls_after None last = []
 calls_after (Some before) last = before.value ++ last ∷ []
 
--- how many flushes a call is that ended well
+-- 1 for a flush that ended well, else 0
 abbrev pub good_in : Call → ℕ
 good_in (Invalidation domain number ok) = if ok then 1 else 0
 good_in (Gone domain client ranges answer) = 0
 
--- and how many calls that failed
+-- 1 for a call that failed, else 0
 abbrev pub failed_in : Call → ℕ
 failed_in (Invalidation domain number ok) = if ok then 0 else 1
 failed_in (Gone domain client ranges answer) = if is_ok answer then 0 else 1

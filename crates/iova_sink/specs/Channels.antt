@@ -164,7 +164,7 @@ Hears old new done failed heard.Broken =
     (got : List ℕ) × IsAnswer got done
     × (FailsBehind old new got ⊎ (HandsOn old new got × (got ≢ done) × (got ≢ failed)))
 
--- The request came to nothing, and there is no connection any more: a front of it was sent and some
+-- The request failed, and there is no connection any more: a front of it was sent and some
 -- bytes were received behind it, of which the first are taken for an answer; and a call of the
 -- channel failed, or bytes stood in the connection, or the whole request was sent and what was
 -- taken is no answer.

@@ -4,7 +4,7 @@ use Rattle.iova_sink.specs.Calls.{Call}
 
 -- a device in memory: what it took, how much it takes at a time, the call that fails, and how many
 -- calls there were and failed
-pub record Kept : Type 0 where
+pub record MemoryDeviceState : Type 0 where
   pub bytes : List ℕ
   pub most : ℕ
   pub fail_at : ℕ
@@ -12,7 +12,7 @@ pub record Kept : Type 0 where
   pub failures : ℕ
 
 -- a sink of records: its device, and its calls
-pub record Recording (D : Type 0) : Type 0 where
+pub record RecordSinkState (D : Type 0) : Type 0 where
   pub device : D
   pub calls : List Call
 

@@ -23,9 +23,9 @@ pub struct MemoryDevice {
 
 impl Model for MemoryDevice {
     ghost use Rattle.std.specs.Prelude.{◌≡◌, ◌-◌, ◌≤◌};
-    ghost use Rattle.iova_sink.specs.Devices.{Kept};
+    ghost use Rattle.iova_sink.specs.Devices.{MemoryDeviceState};
 
-    ghost Value = { Kept };
+    ghost Value = { MemoryDeviceState };
 
     ghost view = { λ d. record {
       bytes = d.bytes.items;

@@ -40,9 +40,9 @@ impl<D: Device + Drop> Drop for RecordSink<D> {
 impl<D: Device> Model for RecordSink<D> {
     ghost use Rattle.std.specs.Prelude.{◌≡◌};
     ghost use Rattle.iova_sink.specs.Calls.{is_last_failed};
-    ghost use Rattle.iova_sink.specs.Devices.{Recording};
+    ghost use Rattle.iova_sink.specs.Devices.{RecordSinkState};
 
-    ghost Value = { Recording D };
+    ghost Value = { RecordSinkState D };
 
     ghost view = { λ s. record { device = s.device; calls = s.calls } };
 
@@ -72,7 +72,7 @@ impl<D: Device> RecordSink<D> {
 impl<D: Device> Sink for RecordSink<D> {
     ghost calls = { λ s. s.calls };
 
-    /// Writes the record, then hands it on. It fails where the device failed in this call, and
+    /// Writes the record, and pushes it out. It fails where the device failed in this call, and
     /// nowhere else; some first bytes of the record may be written then.
     fn invalidate(&mut self, domain: u64, no: u64) -> Result<(), SinkFault>
         ensures calls { self.new.calls ≡ with_call self.old.calls domain no (is_ok result) }
@@ -103,7 +103,7 @@ impl<D: Device> Sink for RecordSink<D> {
     }
 }
 
-/// The bytes of a record, which follows a call that failed or doesn't.
+/// The bytes of a record. One after a call that failed begins with a line feed.
 pub(crate) fn record_of(after_failure: bool, domain: u64, no: u64) -> ArrayVec<u8, MAX_RECORD>
     ensures { result.items ≡ record_text after_failure domain no }
 {
@@ -145,7 +145,7 @@ pub(crate) fn put_digits(text: &mut ArrayVec<u8, MAX_RECORD>, number: u64)
     put(text, Buffer::new().format(number).as_bytes());
 }
 
-/// Puts all bytes, going on after short counts, and pushes them out.
+/// Puts all bytes, going on where the device takes fewer, and pushes them out.
 fn put_all<D: Device>(device: &mut D, bytes: &[u8]) -> Result<(), DeviceFault>
     ensures ok { OnOk result (Appends (D.taken device.old) (D.taken device.new) bytes.now) }
     ensures err { OnErr result ((n : ℕ)

@@ -714,7 +714,7 @@ fn last_wanted<'a, R: Host, B: Names>(
     if !is_queued && !is_waited(posts) {
         return None;
     }
-    open_one(run, SinkPlace::of(run.plan).at_once(), None)
+    open_one(run, SinkPlace::of(run.plan).without_wait(), None)
 }
 
 /// Whether a client waits at one of the posts.

@@ -150,9 +150,9 @@ returns-in-Err-clause-state c =
     let same = c.in-Some.ensures.unchanged in
     let owner = looked_up c.args.worker _ c.in-Some.flags c.in-Some.ensures.is in
     let why = refuses_err _ c.room.result c.in-Err.refusal (record { refused = c.room.ensures.refused; accepted = c.room.ensures.accepted }) c.in-Err.is in
-    let why_here = rw same at why in
+    let why_before = rw same at why in
     let made : Registry → State = λ x. state_of (record p { clients = x }) in
-    let none = starved_state s c.args.worker c.args.client c.args.frames c.args.limit c.refused_at.result.1 c.in-Err.refusal known c.requires.some c.requires.bounded owner why_here c.refused_at.ensures.memory in
+    let none = starved_state s c.args.worker c.args.client c.args.frames c.args.limit c.refused_at.result.1 c.in-Err.refusal known c.requires.some c.requires.bounded owner why_before c.refused_at.ensures.memory in
     rw (← c.self.view_is) (ap made (c.in-Err.ensures.unchanged ∙ same) ∙ sym none)
 
 pub returns-in-OutOfMemory-clause-reply : goal.returns-in-OutOfMemory-clause-reply

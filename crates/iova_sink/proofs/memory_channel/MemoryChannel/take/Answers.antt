@@ -2,7 +2,7 @@ use Rattle.std.proofs.Common.{◌∙◌, ◌≡◌, ◌++◌, ℕ, List, length,
 use Rattle.iova_sink.specs.Passing.{sent_of, with_received_bytes}
 use Rattle.iova_sink.proofs.Passing.{sent_still, received_kept, front_of}
 use Rattle.iova_sink.specs.Channels.{Talk}
-use Rattle.iova_sink.proofs.Talks.{hands_at_once}
+use Rattle.iova_sink.proofs.Talks.{hands_none_ahead}
 use Rattle.iova_sink.proofs.memory_channel.MemoryChannel.take.Goals as goal
 
 pub invariant_of-self : goal.invariant_of-self
@@ -18,7 +18,7 @@ pub returns-in-Ok-clause-receives : goal.returns-in-Ok-clause-receives
 returns-in-Ok-clause-receives c =
     let n = c.min-n.result in
     let long : length c.copy_from_slice.new.self ≡ n = omega (arith, c.copy_from_slice.ensures.len, length-take-le n c.args.buffer.now (omega (arith, c.min-n.ensures))) in
-    hands_at_once c.args.self.now _ _ (sym (ap (λ (t : Talk). t.ahead) c.self.view_is)) refl
+    hands_none_ahead c.args.self.now _ _ (sym (ap (λ (t : Talk). t.ahead) c.self.view_is)) refl
     (c.add_received.ensures
     ∙ (ap (λ (x : List ℕ). with_received_bytes c.self.inside.past x) (sym (front_of n c.copy_from_slice.new.self (drop n c.args.buffer.now) _ long c.copy_from_slice.ensures.after))
     ∙ ap (λ (t : Talk). with_received_bytes t.passed (take n (c.copy_from_slice.new.self ++ drop n c.args.buffer.now))) c.self.view_is))
