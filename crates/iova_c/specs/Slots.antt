@@ -49,7 +49,7 @@ NumberStep old st answer new = (r : Reply) × HasStepped old st r new × (answer
 abbrev pub WordStep : Option Paged → Step → ℕ → Option Paged → Type 0
 WordStep old st answer new = (r : Reply) × HasStepped old st r new × (answer ≡ word_answer r)
 
--- in bytes, by the domain's granule
+-- the answer is in bytes, by the domain's granule
 abbrev pub MappingStep : Option Paged → Step → MappingAnswer → Option Paged → Type 0
 MappingStep old st answer new =
     (r : Reply) × HasStepped old st r new × (answer ≡ mapping_answer (granule_of old) r)
@@ -82,7 +82,7 @@ pub record IsMade (granule : ℕ) (old : Option Paged) (extent : Extent) (worker
   pub no_other : (answer ≡ 0) ⊎ (answer ≡ refusal_number refusal.BadWindow)
       ⊎ (answer ≡ refusal_number refusal.NoWorker) ⊎ (answer ≡ refusal_number refusal.NoMemory)
 
--- in the first profile, in frames of so many bytes
+-- making a domain of the first profile, in frames of so many bytes
 pub record HasMade (granule : ℕ) (old : Option Paged) (start last workers answer : ℕ)
     (new : Option Paged) : Type 0 where
   pub bad_granule : (IsGranule granule → ⊥)
@@ -90,7 +90,7 @@ pub record HasMade (granule : ℕ) (old : Option Paged) (start last workers answ
   pub made : IsGranule granule → IsMade granule old
       (record { start = start; last = last; profile = first_profile }) workers answer new
 
--- in the second one, whose depot has a limit
+-- making a domain of the second profile, whose depot has this limit
 pub record HasMadeSecond (granule : ℕ) (old : Option Paged) (start last workers depot answer : ℕ)
     (new : Option Paged) : Type 0 where
   pub bad_granule : (IsGranule granule → ⊥)

@@ -146,7 +146,7 @@ pub fn alloc_by(slot: &mut Slot, cache: &mut CacheSlot, frames: u64, limit: u64)
     }
 }
 
-/// What begins there goes from the user to the domain's ring.
+/// The range that begins there goes from the user to the domain's ring.
 pub fn unmap_by(slot: &mut Slot, cache: &mut CacheSlot, lo: u64) -> RangeAnswer
     ensures { UnmapByCall slot.old.domain cache.old.cache lo result slot.new.domain
         cache.new.cache }

@@ -71,8 +71,8 @@ pub extern "C" fn iova_refusal_text(number: u64, text: &mut [u8]) -> u64
     }
 }
 
-/// The bytes of a type of `iova.h`, by its place there; of a domain's slot for 0, of a cache's for
-/// 11, and 0 where there is no such type.
+/// How many bytes a type of `iova.h` has, by its place there: a domain's slot is 0, a cache's 11.
+/// Answers 0 where there is no such type.
 #[unsafe(no_mangle)]
 pub extern "C" fn iova_type_size(number: u64) -> u64
     ensures slot { number ≡ 0 → result ≤ 1536 }

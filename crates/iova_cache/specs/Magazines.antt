@@ -30,7 +30,7 @@ pub record Misses (ms : List (List Frames)) (order last : ℕ) : Type 0 where
   pub newest : IsNewest range (magazine_of ms order)
   pub above : last < range.lo + range.len - 1
 
--- or it has not
+-- the newest range of this order has no frame above the last one that is asked for
 pub record Fits (ms : List (List Frames)) (order last : ℕ) : Type 0 where
   pub range : Frames
   pub newest : IsNewest range (magazine_of ms order)

@@ -11,7 +11,7 @@ use Rattle.iova_cache.specs.Laws.Act.{Gives, TakesBack, Settles, Asks, Returns}
 use Rattle.iova_cache.specs.Worlds.{World, IsWorld, Event, Happens}
 use Rattle.iova_cache.specs.Worlds.Event.{Acts, Steps}
 
--- What a cache learns of flushes is so: a range that is given up gets a number that is no smaller
+-- What a cache learns of flushes is true: a range that is given up gets a number that is no smaller
 -- than that of the last flush that has begun, and what is settled is settled by the number of a
 -- flush that has ended well, or by a smaller one.
 abbrev pub IsActTold : Act → State → Type 0
@@ -23,7 +23,7 @@ abbrev pub IsTold : Event → State → Type 0
 IsTold (Acts before later a old new came went) s = IsActTold a s
 IsTold e s = Unit {0}
 
--- what happens, one after another, where the caches learn so of flushes
+-- what happens, one after another, where what the caches learn of flushes is true
 abbrev pub GoesTold : List Event → World → World → Type 0
 GoesTold [] w v = v ≡ w
 GoesTold (e ∷ es) w v =

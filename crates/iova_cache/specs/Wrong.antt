@@ -24,7 +24,7 @@ pub data Deed : Type 0 where
   Errs : (before later : List CacheState) (old new : CacheState) → Deed
   Asks : (before later : List CacheState) (c : CacheState) (st : Step) (r : Reply) → Deed
 
--- Right caches learn of flushes what is so. A wrong one's client is no right one's.
+-- What right caches learn of flushes is true. A wrong one's client is no right one's.
 abbrev pub IsDone : Deed → Mixed → Mixed → Type 0
 IsDone (Rightly e) m n =
     Happens e m.world n.world × (IsTold e m.world.domain × (n.wrong ≡ m.wrong))

@@ -12,7 +12,7 @@ use iova_range::refusal::Refusal;
 use iova_range::sizes::order_of;
 use std::alloc::Global;
 
-/// What is above every first frame of a cache.
+/// A frame above every first frame in a cache.
 const TOP: u64 = 1 << 40;
 
 /// Why a range doesn't come into a magazine.
@@ -29,7 +29,7 @@ pub enum Unput {
 }
 
 impl Cache {
-    /// A cache with no range, of a client of no domain that is here. `NoMemory` where a growth is
+    /// A cache with no range, whose client's domain is elsewhere. `NoMemory` where a growth is
     /// refused.
     pub fn apart(alloc: Global, sac: bool) -> Result<Cache, Refusal>
         ensures value { IfOk result (λ c. c ≡ new_cache 0 0 sac) }
@@ -79,7 +79,7 @@ impl Cache {
 
     /// A range of the client goes to the user. `BadWindow` where its first frame isn't below 2^40,
     /// or its length isn't one that a domain gives: 1 to 1,048,576 frames, and up to 32 a power of
-    /// two. `NoMemory` where what the user holds can't grow.
+    /// two. `NoMemory` where the table of what the user holds can't grow.
     pub fn keep(&mut self, lo: u64, len: u64) -> Result<(), Refusal>
         ensures kept { OnOk result (IsKept self.old self.new (record { lo = lo; len = len })) }
         ensures refused { IfErr result (IsUnkept self.old lo len) }
@@ -127,7 +127,7 @@ impl Cache {
         Some(range)
     }
 
-    /// How many ranges the user holds. It walks over what has room for them.
+    /// How many ranges the user holds. It walks over all buckets of the table.
     pub fn held(&self) -> u64
         ensures { result ≡ length self.now.held }
     {

@@ -146,9 +146,9 @@ impl Cache {
         self.get(order, limit)
     }
 
-    /// What `alloc` does, where it takes the fewest instructions: it needs no memory, and the range
-    /// is found at one look later on. None where it isn't so or `alloc` refuses, and nothing has
-    /// changed.
+    /// What `alloc` does in the fewest instructions, where it needs no memory and the range can be
+    /// found at one look later on. None in any other case, and where `alloc` refuses; then nothing
+    /// has changed.
     #[inline(always)]
     pub fn alloc_fast(&mut self, frames: u64, limit: u64) -> Option<Range>
         ensures met { IfSome result (λ r. (order : ℕ) × HasOrder frames order
@@ -234,8 +234,8 @@ impl Cache {
         Ok(range)
     }
 
-    /// What `unmap` does, where it takes the fewest instructions: one look finds the range. None
-    /// where it isn't so or `unmap` refuses, and nothing has changed.
+    /// What `unmap` does in the fewest instructions, where one look finds the range. None in any
+    /// other case, and where `unmap` refuses; then nothing has changed.
     #[inline(always)]
     pub fn unmap_fast(&mut self, lo: u64, start: u64) -> Option<Range>
         ensures given_up { IfSome result (λ r. (find (begins_at lo) self.old.held ≡ Some r)

@@ -43,7 +43,7 @@ pub fn frames_have_one_user()
 }
 
 /// A frame that a user gave up is given to a user again, by whichever cache or by the domain, only
-/// where a flush that began afterwards has ended well. It holds where the caches learn so: a
+/// where a flush that began afterwards has ended well. It holds where the caches learn the truth: a
 /// range that is given up gets a number that is no smaller than that of the last flush that has
 /// begun, and caches are settled by numbers that aren't above that of a flush that has ended well.
 pub fn reuse_over_caches_is_flushed()
@@ -59,7 +59,7 @@ pub fn reuse_over_caches_is_flushed()
 /// A cache that breaks its word harms its own user alone. Whatever wrong caches give, keep and say,
 /// their clients are clients as any other to the domain: the users of all other caches and the
 /// clients without a cache have each frame alone, and are given it behind a flush, as far as the
-/// right caches learn what is so. Any cache may turn wrong at any time.
+/// right caches learn the truth. Any cache may turn wrong at any time.
 pub fn wrong_caches_harm_their_own()
     ensures { WrongCachesHarmTheirOwn }
 {

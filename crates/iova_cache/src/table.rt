@@ -356,7 +356,7 @@ impl Table {
     }
 
     /// Takes the first range out that begins there, where it is at home and has at most 32 frames.
-    /// One look finds it. None where it isn't so, and nothing has changed.
+    /// One look finds it. None where there is no such range, and nothing has changed.
     #[inline(always)]
     pub(crate) fn take_at_home(&mut self, lo: u64) -> Option<Range>
         ensures taken { IfSome result (λ r. (find (begins_at lo) self.old.ranges ≡ Some r)

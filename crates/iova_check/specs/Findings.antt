@@ -16,8 +16,8 @@ use Rattle.iova_check.specs.Bounds.{Bounds}
 use Rattle.iova_check.specs.History.{next_line}
 use Rattle.iova_check.specs.Promise.{IsKeptAt}
 
--- what a kind tells of a frame at this stage: nothing where it is not so, else the line since
--- which, where it tells one
+-- the line that a finding of this kind names for a frame at this stage, where it names one; None
+-- where the frame is no such finding
 abbrev pub since_of : Kind → Stage → Option (Option ℕ)
 since_of kind.Outside s = None
 since_of kind.Overlap stage.Free = None

@@ -60,8 +60,8 @@ fn one_if(finding: &Option<Finding>) -> u64
 }
 
 impl Kind {
-    /// What the kind says of a frame at this stage: nothing where it is not so, else the line
-    /// since which, where it has one.
+    /// The line that a finding of this kind names for a frame at this stage, where it names one.
+    /// None where the frame is no such finding.
     pub fn told(self, stage: Stage) -> Option<Option<u64>>
         ensures { result ≡ since_of self stage }
     {

@@ -37,7 +37,7 @@ pub record AreChains (chains : ℕ → ℕ) (size count : ℕ) (links : List ℕ
 abbrev pub AreLinks : List Frames → ℕ → List ℕ → Type 0
 AreLinks cells count links = AreChains (chain_at cells) (length cells) count links
 
--- the entry of this chain that leads to the place or, where it is not in the chain, would
+-- the entry of this chain that leads to the place, or would where the place isn't in the chain
 abbrev pub LeadsTo : List Frames → ℕ → List ℕ → ℕ → ℕ → ℕ → Type 0
 LeadsTo cells count links chain place entry =
     (bound : ℕ) × IsEntry (chain_at cells) (length cells) count entry chain bound

@@ -35,7 +35,7 @@ CountsWithin seats calls seats_now tally calls_now flusher_calls =
     ≤ sum_by (λ s. s.tally.good) seats + sum_by good_calls calls_now + good_calls flusher_calls
 
 -- What CountsWithin says, where the flusher's tally and the sinks aren't given back: there is a
--- tally, which has all parts that the seats haven't, and there are sinks, of which it is so.
+-- tally, which has all parts that the seats haven't, and there are sinks, of which it holds.
 abbrev pub CountsWithinSome : {D : Type 0} → (D → List Call) → List SeatState → List D
     → List SeatState → Type 0
 CountsWithinSome {D} calls seats sinks seats_now =

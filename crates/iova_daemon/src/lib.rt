@@ -76,7 +76,7 @@ impl Serving {
         self.clients.max(1)
     }
 
-    /// Whether all sessions had their accept, where so many had.
+    /// Whether all sessions have had their accept, once so many have.
     fn are_all(self, accepted: u64) -> bool {
         match self.sessions {
             Some(sessions) => accepted >= sessions,

@@ -9,7 +9,7 @@ use std::rt::Files;
 /// The number of standard error, the last of the three streams.
 const STANDARD_ERROR: RawFd = 2;
 
-/// What takes a stream's number: a folder is neither read nor written, as a stream that is closed.
+/// What is opened to take the number of a closed stream: a folder can't be read or written either.
 const ROOT: &str = "/";
 
 /// Where standard input is.
@@ -28,7 +28,7 @@ pub fn path_of_input(name: &str) -> &str
 }
 
 /// Takes the numbers of the standard streams that are closed, so that no file and no socket gets
-/// one: what is printed would be written there. It comes before anything is opened.
+/// one: what is printed would be written there. It is called before anything is opened.
 pub fn hold_closed_streams<R: Files<File = File>>(rt: &R) {
     for _ in 0..=STANDARD_ERROR {
         match File::open(rt, ROOT) {

@@ -26,7 +26,7 @@ IsToldOf (ask.Free lo) (told.Refused e) = IsUnmapRefusal e × (e ≢ refusal.Rin
 IsToldOf ask.Stat (told.Stat x) = Unit {0}
 IsToldOf a x = ⊥
 
--- the reply that is answered so
+-- the reply of which this is the answer
 abbrev pub IsReplyTold : Reply → Told → Type 0
 IsReplyTold (reply.Given r) (told.Given q) = q ≡ r
 IsReplyTold (reply.Queued r) (told.Queued q) = q ≡ r
@@ -40,7 +40,8 @@ MovesTold (told.Queued r) old new = MovesTotals (reply.Queued r) old new
 MovesTold (told.Stat x) old new = new ≡ old
 MovesTold (told.Refused e) old new = new ≡ old
 
--- One ask of a client of worker w, whose seat has `held`: it is answered so, and leads from s to t.
+-- One ask of a client of worker w, whose seat has `held`: it has this answer, and leads from s to
+-- t.
 abbrev pub DoesAsk : ℕ → ℕ → Ask → Told → Totals → State → State → Type 0
 DoesAsk w id (ask.Alloc frames limit) x held s t =
     (r : Reply) × IsReplyTold r x × Takes s (step.Alloc w id frames limit) r t
@@ -74,7 +75,7 @@ StopsAt w id (ask.Free lo ∷ asks) held s t =
 StopsAt w id (ask.Alloc frames limit ∷ asks) held s t = ⊥
 StopsAt w id (ask.Stat ∷ asks) held s t = ⊥
 
--- The asks are done in order, and answered so; where some are left, the next one is a free whose
+-- The asks are done in order, with these answers; where some are left, the next one is a free whose
 -- ring is full.
 abbrev pub DoesAsks : ℕ → ℕ → List Ask → List Told → Totals → Totals → State → State → Type 0
 DoesAsks w id asks [] held left s t = StopsAt w id asks held s t × (left ≡ held)
@@ -155,7 +156,7 @@ StopRuns w id (ask.Free lo ∷ asks) held es =
 StopRuns w id (ask.Alloc frames limit ∷ asks) held es = ⊥
 StopRuns w id (ask.Stat ∷ asks) held es = ⊥
 
--- This is run for the asks, in order, where they are answered so.
+-- This is run for the asks, in order, where they have these answers.
 pub data AsksRun (w id : ℕ) : List Ask → List Told → Totals → Totals → List Event → Type 0 where
   stopped : (asks : List Ask) (held : Totals) (es : List Event) → StopRuns w id asks held es
       → AsksRun w id asks [] held held es

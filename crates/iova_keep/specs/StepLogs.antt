@@ -26,7 +26,7 @@ StoresPair old pair new =
     ⊎ (((old.recording ≡ false) ⊎ (old.room ≤ length old.pairs))
     × (new ≡ record { recording = false; room = old.room; pairs = old.pairs }))
 
--- the same, where there is a log at all
+-- A pair is stored where there is a log; where there is none, none comes.
 abbrev pub Stores : Option StepLog → Pair → Option StepLog → Type 0
 Stores None pair new = new ≡ None
 Stores (Some old) pair new = MatchOption new ⊥ (StoresPair old pair)
@@ -44,7 +44,7 @@ pub record LogGoesOn (old new : StepLog) : Type 0 where
   pub full : old.recording ≡ true → new.recording ≡ false → new.room ≤ length new.pairs
   pub ended : old.recording ≡ false → new ≡ old
 
--- the same, where there is a log at all
+-- What any steps make of the log, where there is one; where there is none, none comes.
 pub data GoesOn : Option StepLog → Option StepLog → Type 0 where
   unrecorded : GoesOn None None
   recorded : (old new : StepLog) → LogGoesOn old new → GoesOn (Some old) (Some new)

@@ -44,7 +44,7 @@ pub record LedgersState : Type 0 where
   pub shares : Totals
   pub ended : ℕ
 
--- a blank's ledger
+-- the name of a blank's ledger, and its parts
 abbrev pub name_of : Blank → LedgerName
 name_of b = record { name = b.name; parts = b.parts }
 
@@ -103,7 +103,7 @@ new_seats workers = seats_in_turn TALLY_PARTS workers workers
 abbrev pub Lacks : Totals → Frames → Type 0
 Lacks held r = (held.count < 1) ⊎ (held.frames < r.len) ⊎ (held.sum_lo < r.lo)
 
--- or not
+-- a seat has as much as a range, in each of its shares
 abbrev pub Covers : Totals → Frames → Type 0
 Covers held r = (1 ≤ held.count) × (r.len ≤ held.frames) × (r.lo ≤ held.sum_lo)
 
@@ -119,7 +119,7 @@ pub record IsKept (s : State) : Type 0 where
   pub counted : CountsAddUp s
   pub totals : totals s.clients ≡ shares_below s.workers s.clients
 
--- what a client holds, 0 where there is no such client
+-- how many ranges a client holds, 0 where there is no such client
 abbrev pub left_in : Option Client → ℕ
 left_in None = 0
 left_in (Some c) = length c.holdings
@@ -175,7 +175,7 @@ abbrev pub begun_or : Result ℕ Refusal → Reply
 begun_or (Ok n) = reply.Begun n
 begun_or (Err e) = reply.Refused e
 
--- Refusals, at the seat of a worker that there is.
+-- Refusals, at the seat of a worker that the domain has.
 
 abbrev pub IsOpenRefusal : Refusal → Type 0
 IsOpenRefusal e = IsAmong e (refusal.Worn ∷ refusal.ClientsFull ∷ refusal.NoMemory ∷ [])
@@ -199,7 +199,7 @@ IsBeginRefusal e = IsAmong e (refusal.FlightsFull ∷ refusal.Worn ∷ [])
 abbrev pub IsFlushRefusal : Refusal → Type 0
 IsFlushRefusal e = IsAmong e (refusal.FlightsFull ∷ refusal.Worn ∷ refusal.SinkFault ∷ [])
 
--- no such client of this worker
+-- the worker has no such client
 abbrev pub IsUnknown : Refusal → Type 0
 IsUnknown e = e ≡ refusal.NoClient
 
@@ -220,14 +220,16 @@ abbrev pub IsBeginHeard : Option Reply → Option Reply → Type 0
 IsBeginHeard o None = Unit {0}
 IsBeginHeard o (Some b) = (o ≡ Some (reply.Refused refusal.RingFull)) × IsReplyTo step.Begin b
 
--- what is heard in the first hold of a release, also after a range that was queued
+-- what a begin may be heard to answer in the first hold of a release, also after a range that was
+-- queued
 abbrev pub IsReleaseBegin : Option Reply → Option Reply → Type 0
 IsReleaseBegin o None = Unit {0}
 IsReleaseBegin o (Some b) =
     ((o ≡ Some (reply.Refused refusal.RingFull)) ⊎ ((q : Frames) × (o ≡ Some (reply.Queued q))))
     × IsReplyTo step.Begin b
 
--- and in its second hold, after a range that was queued alone
+-- what a begin may be heard to answer in the second hold of a release: only after a range that was
+-- queued
 abbrev pub IsSecondBegin : Option Reply → Option Reply → Type 0
 IsSecondBegin o None = Unit {0}
 IsSecondBegin o (Some b) = ((q : Frames) × (o ≡ Some (reply.Queued q))) × IsReplyTo step.Begin b
@@ -242,12 +244,12 @@ IsCloseHeard (Some reply.Empty) = Unit {0}
 IsCloseHeard (Some (reply.Refused e)) = IsCloseRefusal e
 IsCloseHeard o = ⊥
 
--- where a keeper's domain is known before a call, it is known after it, and the two stand so
+-- where a keeper's domain is known before a call, it is known after it, and P holds of the two
 abbrev pub WhereKnown : Option State → Option State → (State → State → Type 0) → Type 0
 WhereKnown None after P = Unit {0}
 WhereKnown (Some s) after P = MatchOption after ⊥ (λ t. P s t)
 
--- flushes that ended well rise from old to new, by at most the good calls that the sink was made
+-- the flushes that ended well rise from old to new, by no more than the good calls of the sink
 abbrev pub RisesWithin : ℕ → ℕ → List Call → List Call → Type 0
 RisesWithin old new before now = new + good_calls before ≤ old + good_calls now
 
@@ -287,7 +289,7 @@ abbrev pub Lowers : Totals → Totals → Totals → Type 0
 Lowers queued old new =
     (ranges : List Frames) × (queued ≡ totals_of ranges) × IsLowered ranges old new
 
--- so many ranges are counted where all were queued, and none is where the call was refused
+-- so many ranges were queued: all, where the client has ended; none, where the call was refused
 abbrev pub Tells : Result Ending Refusal → ℕ → Type 0
 Tells (Ok (ending.Ended queued)) count = queued ≡ count
 Tells (Ok (ending.Waiting left why)) count = Unit {0}

@@ -26,7 +26,7 @@ pub struct Turnstile {
     state: AtomicU64,
 }
 
-/// That this thread is in the turnstile, which it leaves where this is dropped.
+/// Says that this thread is in the turnstile, which it leaves when this is dropped.
 pub struct Passage<'a> {
     of: &'a Turnstile,
 }
@@ -52,7 +52,7 @@ impl Turnstile {
         self.state.load(SeqCst) != FREE
     }
 
-    /// Whether it was free at one of some looks, and this thread is in it now.
+    /// Whether it was free at one of `LOOKS` looks, so that this thread is in it now.
     fn passes_at_a_look(&self) -> bool {
         for _ in 0..LOOKS {
             if self.state.load(SeqCst) == FREE

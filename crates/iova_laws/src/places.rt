@@ -13,7 +13,7 @@ pub fn places_add_up()
 {}
 
 /// No frame is lost, and none is made: a step takes ranges from free frames and makes ranges free,
-/// those that it says and no others, whatever ranges weigh.
+/// those that `Moves` says and no others, whatever ranges weigh.
 pub fn steps_conserve()
     ensures { StepsConserve }
 {}

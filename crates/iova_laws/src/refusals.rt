@@ -11,8 +11,8 @@ pub fn other_steps_take_no_memory()
     ensures { OtherStepsTakeNoMemory }
 {}
 
-/// A growth that is refused is answered so, or the step is as it would be with memory: no other
-/// reply, and no other state.
+/// A growth that is refused is answered by `NoMemory`, or the step is as it would be with memory:
+/// no other reply, and no other state.
 pub fn points_only_refuse()
     ensures { PointsOnlyRefuse }
 {}

@@ -42,8 +42,8 @@ impl Drop for Signals {
 
 impl Signals {
     /// Nobody has asked for a stop, and nothing is counted. The daemon's threads have so many
-    /// processors; 0 where that isn't known. It has started so many seconds after the beginning of
-    /// 1970.
+    /// processors; 0 where the number isn't known. It has started so many seconds after the
+    /// beginning of 1970.
     pub fn new(processors: u64, started: u64) -> Signals
         ensures { (result.processors ≡ processors) × (result.started ≡ started) }
     {

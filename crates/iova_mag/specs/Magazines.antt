@@ -3,8 +3,7 @@ use Rattle.std.specs.Prelude.{ℕ, ◌≤◌, ◌<◌, ◌^◌, List, [], length
 use Rattle.iova_range.specs.Bounds.{Capacities, IsProfile}
 use Rattle.iova_model.specs.Caches.{Shelf, fitting, pop_entry}
 
--- What a `Magazine` is seen as: its entries, and the profile that says how many of them it is full
--- at
+-- What a `Magazine` is seen as: its entries, and the profile, which says how many of them fill it
 pub record Magazine : Type 0 where
   pub profile : Capacities
   pub entries : List ℕ
@@ -13,7 +12,7 @@ pub record Magazine : Type 0 where
 abbrev pub magazine_of : Capacities → List ℕ → Magazine
 magazine_of profile entries = record { profile = profile; entries = entries }
 
--- It has no more entries than it is full at, each below 2^40.
+-- It has no more entries than fill it, each below 2^40.
 pub record IsMagazine (m : Magazine) : Type 0 where
   pub profile : IsProfile m.profile
   pub room : length m.entries ≤ m.profile.mag

@@ -19,13 +19,14 @@ new_client id worker sac =
 abbrev pub has_id : ℕ → Client → Bool
 has_id id c = c.id == id
 
--- the client with this serial, and the same where it is the worker's
+-- the client with this serial
 abbrev pub client_with : ℕ → List Client → Option Client
 client_with id clients = find (has_id id) clients
 
 abbrev pub if_owned : ℕ → Client → Option Client
 if_owned worker c = if c.worker == worker then Some c else None
 
+-- the client with this serial, where it is the worker's
 abbrev pub client_of : ℕ → ℕ → List Client → Option Client
 client_of worker id clients = option_and_then (if_owned worker) (client_with id clients)
 
@@ -33,17 +34,17 @@ client_of worker id clients = option_and_then (if_owned worker) (client_with id 
 abbrev pub is_newer : ℕ → ℕ → Client → Bool
 is_newer worker than c = if c.worker == worker then nat_lt than c.id else false
 
--- the first such client
+-- the first client of the worker with a serial above this one
 abbrev pub newer_client : ℕ → ℕ → List Client → Option Client
 newer_client worker than clients = find (is_newer worker than) clients
 
--- the clients with a change to that one
+-- the clients, with a change to the one with this serial
 abbrev pub change_client : ℕ → (Client → Client) → List Client → List Client
 change_client id change [] = []
 change_client id change
     (c ∷ cs) = if has_id id c then change c ∷ cs else c ∷ change_client id change cs
 
--- and without it
+-- the clients without the one with this serial
 abbrev pub without_client : ℕ → List Client → List Client
 without_client id [] = []
 without_client id (c ∷ cs) = if has_id id c then cs else c ∷ without_client id cs

@@ -1,5 +1,6 @@
--- The words of the laws: what a step with its reply brings in and lets go, moves, marks and leaves,
--- and which replies and refusals it has. Contracts cite them.
+-- The words of the laws: which ranges a step with its reply gains and frees, how it moves the
+-- totals, which client it marks, what a refused one leaves, and which replies and refusals a step
+-- has. Contracts cite them.
 use Rattle.std.specs.Prelude.{ℕ, zero, suc, ◌≡◌, ◌≢◌, ◌≤◌, ◌+◌, ◌-◌, ◌%◌, ◌==◌, ◌⊎◌, Bool, true, false, nat_lt, if◌then◌else◌, List, [], ◌∷◌, ◌++◌, map, filter, find, Option, Some, None, option_and_then, slice_get, sum_by}
 use Rattle.iova_range.specs.declared.limits.TheConstants.{MAX_FRAMES}
 use Rattle.iova_range.specs.declared.refusal.Refusal.{Refusal}
@@ -44,10 +45,10 @@ pub record CountsAddUp (s : State) : Type 0 where
   pub all : (counts s).free + (counts s).reserved + (counts s).client + (counts
       s).magazine + (counts s).depot + (counts s).ring ≡ s.bounds.last + 1 - s.bounds.start
 
--- Conservation. A step brings ranges in among those that somebody has (`gained`) and lets ranges go
--- (`freed`), those that are said here and no others; whatever ranges weigh, nothing else is gained
--- or lost. A window that joins others gains their frames again, and a range may be given from what
--- emptied caches let go in the same step.
+-- Conservation. A step brings ranges in among those that somebody has (`gained`) and frees some of
+-- these (`freed`), those that are said here and no others; whatever ranges weigh, nothing else is
+-- gained or lost. A window that joins others gains their frames again, and a range may be given
+-- from what emptied caches free in the same step.
 
 -- what a drain of ring q by worker w makes free
 abbrev pub freed_by_drain : State → ℕ → ℕ → List Frames
@@ -71,7 +72,7 @@ MovesInAlloc c (reply.Refused refusal.NoSpace) gained freed =
 MovesInAlloc c (reply.Refused refusal.NoMemory) gained freed = (gained ≡ []) × FreesCaches c freed
 MovesInAlloc c r gained freed = (gained ≡ []) × (freed ≡ [])
 
--- which ranges a step with this reply brings in, and which it lets go
+-- which ranges a step with this reply gains, and which it frees
 abbrev pub Moves : State → Step → Reply → List Frames → List Frames → Type 0
 Moves s (step.Reserve lo hi) (reply.Reserved window) gained freed =
     (gained ≡ window ∷ []) × (freed ≡ filter (meets (from_to lo hi)) s.windows)
@@ -197,7 +198,7 @@ client_closed step.Begin = None
 client_closed (step.End number ok) = None
 client_closed (step.Drain ring by) = None
 
--- a step that closes has marked its client where it is answered so
+-- the replies by which a step that closes has marked its client
 abbrev pub HasMarked : Reply → Type 0
 HasMarked (reply.Marked left) = Unit {0}
 HasMarked (reply.Queued r) = Unit {0}
@@ -253,7 +254,7 @@ client_named step.Begin = None
 client_named (step.End number ok) = None
 client_named (step.Drain ring by) = None
 
--- why a step is refused whose client there isn't: for want of it, or by what is asked before
+-- why a step is refused whose client doesn't exist: for that, or by a test that comes before
 abbrev pub unless_no_worker : State → ℕ → Refusal → Refusal
 unless_no_worker s w r = if no_worker s w then refusal.NoWorker else r
 
@@ -273,12 +274,12 @@ unknown_refusal s (step.Drain ring by) = refusal.NoClient
 -- What a request is given.
 
 -- what is given to a request of so many frames with this limit: as many as it needs, aligned to
--- their size, and none above
+-- their size, and none above the limit
 abbrev pub IsGivenTo : ℕ → ℕ → Frames → Type 0
 IsGivenTo frames limit r =
     (r.len ≡ need frames) × (r.lo % align_of r.len ≡ 0) × (r.lo + r.len ≤ limit + 1)
 
--- and inside the bounds
+-- what is given to a request lies inside the bounds too
 pub record IsAnswerTo (s : State) (frames limit : ℕ) (r : Frames) : Type 0 where
   pub given : IsGivenTo frames limit r
   pub start : s.bounds.start ≤ r.lo

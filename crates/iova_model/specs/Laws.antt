@@ -116,7 +116,8 @@ OtherStepsTakeNoMemory =
     (s : State) (st : Step) (m : Point) → takes_memory st ≡ false
     → (next s st m).reply ≡ reply.Refused refusal.NoMemory → ⊥
 
--- a refused growth is answered so, or the step didn't come to it and is as if there had been memory
+-- a refused growth is answered by NoMemory, or the step didn't reach it and is as if there had been
+-- memory
 abbrev pub PointsOnlyRefuse : Type 0
 PointsOnlyRefuse =
     (s : State) (st : Step) (m : Point)

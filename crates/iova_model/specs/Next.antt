@@ -81,7 +81,7 @@ union r (w ∷ ws) = if meets r w then join (union r ws) w else union r ws
 abbrev pub windows_with : Frames → List Frames → List Frames
 windows_with r windows = insert_rising (union r windows) (filter (λ w. not (meets r w)) windows)
 
--- a client's, cached or in a ring
+-- whether a client, a cache or a ring has a frame of the range
 abbrev pub is_taken : State → Frames → Bool
 is_taken s r = list_any (λ h. meets r h.range) (owners s)
 
@@ -97,7 +97,7 @@ window_tests bounds windows taken lo hi =
     ∷ (nat_lt MAX_WINDOWS (length (windows_with (from_to lo hi) windows)), refusal.WindowsFull)
     ∷ []
 
--- and at last for memory
+-- what a reserve may be refused for: what its window may be, and at last for want of memory
 abbrev pub reserve_tests : State → ℕ → ℕ → Point → List (Bool × Refusal)
 reserve_tests s lo hi m =
     window_tests s.bounds s.windows (is_taken s (from_to lo hi)) lo hi
@@ -342,7 +342,7 @@ abbrev pub close_one : State → ℕ → ℕ → Next
 close_one s w id = unless (worker_tests s w) s (close_one_of (client_of w id s.clients) s w id)
 
 -- The reply to a step, and the state after it, where the growth at this point was refused. A point
--- that the step doesn't come to changes nothing.
+-- that the step doesn't reach changes nothing.
 abbrev pub next : State → Step → Point → Next
 next s (step.Reserve lo hi) m = reserve s lo hi m
 next s (step.Open w sac) m = open_client s w sac m

@@ -50,7 +50,7 @@ Unmaps frame (reply.Marked left) = ⊥
 Unmaps frame reply.Empty = ⊥
 Unmaps frame (reply.Refused r) = ⊥
 
--- pair i did so
+-- by pair i the frame was put into a ring
 pub record IsUnmappedAt (ps : List Pair) (i frame : ℕ) : Type 0 where
   pub pair : Pair
   pub is : slice_get ps i ≡ Some pair

@@ -12,11 +12,11 @@ use Rattle.iova_keep.specs.Views.{SeatState, seats_in_turn}
 use Rattle.iova_lock.specs.Books.{BookState, SharedState, new_book}
 use Rattle.iova_command.specs.declared.plan.Plan.{Plan}
 
--- how many steps are recorded, where that is said or not
+-- how many steps are recorded: so many, or the default where the plan doesn't say
 abbrev pub steps_of : Option ℕ → ℕ
 steps_of steps = unwrap_or steps RECORDED_STEPS
 
--- what is recorded of it: nothing, where no record is wanted
+-- what is recorded of the plan's domain: nothing, where no record is wanted
 abbrev pub planned_log : {A : Type 0} → Option A → Option ℕ → Option StepLog
 planned_log None steps = None
 planned_log (Some path) steps = Some (new_log (steps_of steps))

@@ -17,7 +17,7 @@ pub fn seat_count(plan: &Plan<'_>) -> u64
     (2 * clients_of(plan)).min(MAX_POSTS).max(plan.workers)
 }
 
-/// How many clients are served at a time: 64 where it isn't said.
+/// How many clients are served at a time: 64 where the plan doesn't say.
 pub fn clients_of(plan: &Plan<'_>) -> u64
     ensures is { result ≡ unwrap_or plan.now.clients DEFAULT_CLIENTS }
     ensures most { result ≤ MAX_CLIENTS }

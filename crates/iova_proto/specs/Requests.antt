@@ -15,7 +15,7 @@ request_verb request.Flush = codes "flush"
 request_verb request.Stat = codes "stat"
 request_verb request.Bye = codes "bye"
 
--- and its other words
+-- the other words of a request's line
 abbrev pub request_arguments : Request → List (List ℕ)
 request_arguments (request.Hello domain sac) = codes "iova1" ∷ decimal domain ∷ kind_text sac ∷ []
 request_arguments (request.Alloc frames limit) = decimal frames ∷ decimal limit ∷ []
@@ -29,11 +29,11 @@ request_arguments request.Bye = []
 abbrev pub request_line : Request → List ℕ
 request_line r = line_text (request_verb r) (request_arguments r)
 
--- and with it
+-- a request's line with its LF
 abbrev pub request_text : Request → List ℕ
 request_text r = whole_line (request_line r)
 
--- its numbers are those of 64 bits
+-- the numbers of a request have 64 bits
 abbrev pub IsRequest : Request → Type 0
 IsRequest (request.Hello domain sac) = domain < 2 ^ 64
 IsRequest (request.Alloc frames limit) = (frames < 2 ^ 64) × (limit < 2 ^ 64)

@@ -16,7 +16,7 @@ abbrev pub WritesText : State → Option StepLog → List ℕ → List ℕ → R
 WritesText s log old new result =
     IfOk result (IsTranscriptOf s.bounds s.workers (pairs_in log) old new)
 
--- and that is a transcript from its new domain
+-- where this is no refusal, that text was appended, and it tells a transcript from the new domain
 abbrev pub WritesLog : State → Option StepLog → List ℕ → List ℕ → Result ℕ Refusal → Type 0
 WritesLog s log old new result = IfOk result (HasRecorded s.bounds s.workers (pairs_in log) old new)
 

@@ -113,7 +113,7 @@ EndsReading input left (Err (fault.Line number)) = ⊥
 EndsReading input left (Err fault.NoMemory) = (taken : List ℕ) × Consumes input left taken
 EndsReading input left (Err fault.Read) = (taken : List ℕ) × Consumes input left taken
 
--- the regions of all bytes; where they are not all had, the windows are as they were
+-- The windows have the regions of all bytes; where memory or a read failed, they are as they were.
 abbrev pub TellsOfBytes : Counted → Extent → List ℕ → Option (List ℕ) → List Frames → List Frames
     → Result Unit RegionsFault → Type 0
 TellsOfBytes which bounds taken left old new (Ok u) =

@@ -141,7 +141,7 @@ abbrev pub IsAnswer : ℕ → Option ℕ → ℕ → Request → Answer → Type
 IsAnswer number None listed r a = IsFirstAnswer number r a
 IsAnswer number (Some id) listed r a = IsClientAnswer listed r a
 
--- each request is answered so, in turn
+-- each request has an answer that it may have, in turn
 unfoldable pub AreAnswers : ℕ → Option ℕ → ℕ → List Pair → Type 0
 AreAnswers number client listed [] = Unit {0}
 AreAnswers number client listed (p ∷ ps) =

@@ -42,13 +42,13 @@ IsListOf held listed (answer.Refused e) =
     (e ≡ refusal.NoMemory) ⊎ ((e ≡ refusal.TooMany) × (MAX_LISTED < listed + length held))
 IsListOf held listed a = ⊥
 
--- and what it is answered where the client is looked up in this domain, for this worker
+-- what a list is answered where the client is looked up in this domain, for this worker
 abbrev pub Lists : ℕ → ℕ → ℕ → Answer → State → Type 0
 Lists worker id listed a s =
     MatchOption (client_of worker id s.clients) (a ≡ answer.Refused refusal.NoClient)
     (λ c. IsListOf c.holdings listed a)
 
--- what a free is answered, of which the release came to this
+-- what a free is answered, by the result of its release
 abbrev pub release_answer : Result Unmapped Refusal → Answer
 release_answer (Ok u) = answer_of_release u
 release_answer (Err e) = answer.Refused e

@@ -36,7 +36,8 @@ StaysAlone old new was waiting s t = IsAlone old was s → IsAlone new waiting t
 abbrev pub HasFlushNumbers : State → Type 0
 HasFlushNumbers s = s.flushes.start + length (all_holdings s.clients) ≤ MAX_SERIAL
 
--- And there is room for the ranges of a client, without which the round is over before it begins.
+-- There are these numbers, and room for the ranges of a client, without which a round of tries is
+-- over before it begins.
 pub record HasNumbers (space : ℕ) (s : State) : Type 0 where
   pub room : MAX_HOLDINGS ≤ space
   pub flushes : HasFlushNumbers s

@@ -32,12 +32,12 @@ moment seat calls s = record { seat = seat; calls = calls; domain = s }
 abbrev pub IsSame : State → State → Type 0
 IsSame s t = t ≡ s
 
--- what a hello is answered, of which the open came to this
+-- what a hello is answered, by the result of its open
 abbrev pub open_answer : Result ℕ Refusal → Answer
 open_answer (Ok id) = answer.Opened id
 open_answer (Err e) = answer.Refused e
 
--- and a request for frames, of which the alloc did
+-- what a request for frames is answered, by the result of its alloc
 abbrev pub alloc_answer : Result Frames Refusal → Answer
 alloc_answer (Ok r) = answer.Given r
 alloc_answer (Err e) = answer.Refused e
@@ -89,7 +89,7 @@ PairDoes strict number None listed p a b =
 PairDoes strict number (Some id) listed p a b =
     ClientDoes strict number a.seat id listed p.request p.answer a.calls b.calls a.domain b.domain
 
--- and moves the seat's shares by the answer
+-- An answer moves the shares of the session's seat, and leaves its worker.
 pub record MovesSeat (a : Answer) (old new : SeatState) : Type 0 where
   pub worker : new.worker ≡ old.worker
   pub shares : MovesBy (given_by a) (taken_by a) old.held new.held

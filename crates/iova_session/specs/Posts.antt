@@ -80,7 +80,8 @@ Retries over number (id ∷ ids) kept seat left before now s t =
     × (kept ≡ kept_if a.kept id ++ more)
     × Retries a.over number ids more mid left calls now here t
 
--- and no round is over before it begins where there is room for the ranges of a client
+-- Each of the clients is tried once, in a round that is over before it begins only where there is
+-- no room for the ranges of a client.
 abbrev pub RetriesAll : ℕ → ℕ → List ℕ → List ℕ → SeatState → SeatState → List Call → List Call
     → State → State → Type 0
 RetriesAll room number ids kept seat left before now s t =

@@ -148,8 +148,8 @@ fn put_text<L: Link>(link: &mut L, text: &[u8]) -> Result<(), End>
     }
 }
 
-/// Puts the answers' texts together where each is one line and there is room for all: whether that
-/// is so.
+/// Puts the answers' texts together, and answers whether it did: each has to be one line, and there
+/// has to be room for all.
 fn put_lines(answers: &[Answer], text: &mut ArrayVec<u8, RUN_TEXT>) -> bool
     requires { text.old.items ≡ [] }
     ensures { IsTrue result → text.new.items ≡ answers_text answers.now }

@@ -19,7 +19,7 @@ use iova_sink::sink::{Sink, SinkFault};
 /// The result of the end of a client that leaves.
 #[derive(Clone, Copy)]
 pub struct Leaving {
-    /// How its end went; an error where it isn't known.
+    /// How its end went; an error where the client isn't known.
     pub ended: Result<Ending, Refusal>,
     /// Whether the sink was notified that it is gone, and gave no answer.
     pub silent: bool,

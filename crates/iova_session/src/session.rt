@@ -79,7 +79,7 @@ impl Session {
         self.listed
     }
 
-    /// A request more, which was answered so.
+    /// A request more, with its answer.
     #[inline(always)]
     pub(crate) fn add(&mut self, request: Request, answer: &Answer)
         requires { IsAnswer self.old.number self.old.client self.old.listed request answer.now }

@@ -29,7 +29,7 @@ end_line (step.Drain ring by) = []
 end_line (step.Close worker client) = []
 end_line (step.CloseOne worker client) = []
 
--- The line of a step that was answered so, or nothing. What was given is mapped, and what went into
+-- The line of a step with this reply, or nothing. What was given is mapped, and what went into
 -- a ring is unmapped, by whichever step; a flush begins and ends by its number.
 abbrev pub log_line : Step → Reply → List ℕ
 log_line s (reply.Given r) = whole_line (numbers_line (codes "map") (r.lo ∷ r.len ∷ []))

@@ -42,7 +42,7 @@ EndsReplay taken written fault.NoMemory = BreaksOff taken written
 EndsReplay taken written fault.ReadFault = ⊥
 EndsReplay taken written fault.WriteFault = BreaksOff taken written
 
--- and of the log
+-- what a fault says of the log
 abbrev pub EndsLog : List ℕ → List ℕ → Option (List ℕ) → Option (List ℕ) → ReplayFault → Type 0
 EndsLog taken written before now (fault.BadTrace number) = LogsAll taken written before now
 EndsLog taken written before now fault.NoMemory = LogsFront taken written before now

@@ -23,7 +23,7 @@ pub trait Log {
         ensures err { OnErr result ((n : ℕ) × Appends (contents self.old) (contents self.new)
             (take n (log_header bounds.now))) };
 
-    /// Writes the line of a step that was answered so, if it has one. Refused as the header is.
+    /// Writes the line of a step with this reply, if it has one. Refused as the header is.
     fn log_step(&mut self, step: &Step, reply: &Reply) -> Result<(), WriteFault>
         ensures ok { OnOk result (Appends (contents self.old) (contents self.new)
             (log_line step.now reply.now)) }
@@ -99,7 +99,7 @@ impl<W: Write> Log for LogWriter<W> {
     }
 }
 
-/// Writes the line of a step that was answered so, if it has one: `map` for what was given, `unmap`
+/// Writes the line of a step with this reply, if it has one: `map` for what was given, `unmap`
 /// for what went into a ring, `begin` and `end` for a flush. Refused where a write fails, an
 /// interruption too, or takes nothing; some first bytes of the line are written then.
 pub fn write_log_line<W: Write>(

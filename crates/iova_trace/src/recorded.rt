@@ -9,7 +9,8 @@ use iova_laws::refusals::points_only_refuse;
 pub fn records_replay()
     ensures { RecordsReplay }
 {
-    // for the proof: a refused growth is answered so, or the step is as it would be with memory
+    // for the proof: a refused growth is answered by `NoMemory`, or the step is as it would be with
+    // memory
     points_only_refuse();
 }
 
