@@ -2,4 +2,4 @@ mod Words
 mod Granules
 mod Addresses
 mod Filled
-mod AtOnce
+mod FastCalls

@@ -24,7 +24,7 @@ use Rattle.iova_c.specs.Answers.{number_answer}
 use Rattle.iova_cache.specs.Apart.{IsPutIn, IsTakenOut, IsKept, IsUnkept, IsReleased}
 use Rattle.iova_c.specs.declared.cached.TheConstants.{NO_CACHE, NO_ORDER, DRY, MISS, FULL}
 use Rattle.iova_c.specs.declared.slot.Paged.{Paged}
-use Rattle.iova_c.specs.declared.cached.Cached.{Cached}
+use Rattle.iova_c.specs.declared.cached.PagedCache.{PagedCache}
 use Rattle.iova_c.specs.Slots.{with_domain}
 use Rattle.iova_c.specs.declared.answer.RangeAnswer.{RangeAnswer}
 use Rattle.iova_c.specs.declared.answer.NumberAnswer.{NumberAnswer}
@@ -84,12 +84,12 @@ in_bytes granule a =
     record { refused = a.refused; address = a.lo * granule; bytes = a.len * granule }
 
 -- how many bytes a frame of the slot's cache has
-abbrev pub granule_in : Option Cached → ℕ
+abbrev pub granule_in : Option PagedCache → ℕ
 granule_in (Some c) = c.granule
 granule_in None = FRAME_BYTES
 
 -- the slot's content with another state of the cache
-abbrev pub with_cache : Cached → CacheState → Cached
+abbrev pub with_cache : PagedCache → CacheState → PagedCache
 with_cache c x = record { cache = x; granule = c.granule }
 
 -- The calls. Each is what the slot's cache does, or is refused by NO_CACHE and changes nothing.
@@ -104,7 +104,7 @@ pub record Allocates (old new : CacheState) (frames limit : ℕ) (res : Result F
       × (magazine_of old.magazines order ≡ [])
   pub unchanged : OnErr res (new ≡ old)
 
-abbrev pub AllocCall : Option Cached → ℕ → ℕ → RangeAnswer → Option Cached → Type 0
+abbrev pub AllocCall : Option PagedCache → ℕ → ℕ → RangeAnswer → Option PagedCache → Type 0
 AllocCall None frames limit a new = (a ≡ no_range NO_CACHE) × (new ≡ None)
 AllocCall (Some c) frames limit a new =
     (c' : CacheState) × ((res : Result Frames Unmet) × (Allocates c.cache c' frames limit res
@@ -121,24 +121,24 @@ pub record Unmaps (old new : CacheState) (lo start : ℕ) (res : Result Frames K
       × (find (begins_at lo) old.held ≡ Some r) × (r.len ≤ MOST_CACHED))
   pub unchanged : OnErr res (new ≡ old)
 
-abbrev pub UnmapCall : Option Cached → ℕ → ℕ → RangeAnswer → Option Cached → Type 0
+abbrev pub UnmapCall : Option PagedCache → ℕ → ℕ → RangeAnswer → Option PagedCache → Type 0
 UnmapCall None lo start a new = (a ≡ no_range NO_CACHE) × (new ≡ None)
 UnmapCall (Some c) lo start a new =
     (c' : CacheState) × ((res : Result Frames Kept) × (Unmaps c.cache c' lo start res
     × ((a ≡ kept_answer res) × (new ≡ Some (with_cache c c')))))
 
 -- what `map` does: `alloc`, answered in bytes
-abbrev pub MapCall : Option Cached → ℕ → ℕ → MappingAnswer → Option Cached → Type 0
+abbrev pub MapCall : Option PagedCache → ℕ → ℕ → MappingAnswer → Option PagedCache → Type 0
 MapCall old frames limit a new =
     (range : RangeAnswer) × (AllocCall old frames limit range new
     × (a ≡ in_bytes (granule_in old) range))
 
-abbrev pub UnmapBytesCall : Option Cached → ℕ → ℕ → MappingAnswer → Option Cached → Type 0
+abbrev pub UnmapBytesCall : Option PagedCache → ℕ → ℕ → MappingAnswer → Option PagedCache → Type 0
 UnmapBytesCall old lo start a new =
     (range : RangeAnswer) × (UnmapCall old lo start range new
     × (a ≡ in_bytes (granule_in old) range))
 
-abbrev pub SettleCall : Option Cached → ℕ → NumberAnswer → Option Cached → Type 0
+abbrev pub SettleCall : Option PagedCache → ℕ → NumberAnswer → Option PagedCache → Type 0
 SettleCall None newest a new = (a ≡ record { refused = NO_CACHE; number = 0 }) × (new ≡ None)
 SettleCall (Some c) newest a new =
     (c' : CacheState) × ((count : ℕ) × (IsSettled c.cache c' newest count
@@ -152,7 +152,7 @@ pub record Puts (old new : CacheState) (lo len : ℕ) (res : Result (Unit {0}) U
       × (length (magazine_of old.magazines order) ≡ 256)
   pub unchanged : OnErr res (new ≡ old)
 
-abbrev pub PutCall : Option Cached → ℕ → ℕ → ℕ → Option Cached → Type 0
+abbrev pub PutCall : Option PagedCache → ℕ → ℕ → ℕ → Option PagedCache → Type 0
 PutCall None lo len a new = (a ≡ NO_CACHE) × (new ≡ None)
 PutCall (Some c) lo len a new =
     (c' : CacheState) × ((res : Result (Unit {0}) Unput) × (Puts c.cache c' lo len res
@@ -163,7 +163,7 @@ pub record Takes (old new : CacheState) (order : ℕ) (res : Option Frames) : Ty
   pub empty : IfNone res (magazine_of old.magazines order ≡ [])
   pub unchanged : IfNone res (new ≡ old)
 
-abbrev pub TakeCall : Option Cached → ℕ → RangeAnswer → Option Cached → Type 0
+abbrev pub TakeCall : Option PagedCache → ℕ → RangeAnswer → Option PagedCache → Type 0
 TakeCall None order a new = (a ≡ no_range NO_CACHE) × (new ≡ None)
 TakeCall (Some c) order a new =
     ((ORDERS ≤ order) × ((a ≡ no_range NO_ORDER) × (new ≡ Some c)))
@@ -176,7 +176,7 @@ pub record MakesRoom (old new : CacheState) (res : Result (Unit {0}) Refusal) : 
   pub refused : IsOkUnless res refusal.NoMemory
   pub unchanged : OnErr res (new ≡ old)
 
-abbrev pub RoomCall : Option Cached → ℕ → Option Cached → Type 0
+abbrev pub RoomCall : Option PagedCache → ℕ → Option PagedCache → Type 0
 RoomCall None a new = (a ≡ NO_CACHE) × (new ≡ None)
 RoomCall (Some c) a new =
     (c' : CacheState) × ((res : Result (Unit {0}) Refusal) × (MakesRoom c.cache c' res
@@ -188,7 +188,7 @@ pub record Keeps (old new : CacheState) (lo len : ℕ) (res : Result (Unit {0}) 
   pub refused : IfErr res (IsUnkept old lo len)
   pub unchanged : OnErr res (new ≡ old)
 
-abbrev pub KeepCall : Option Cached → ℕ → ℕ → ℕ → Option Cached → Type 0
+abbrev pub KeepCall : Option PagedCache → ℕ → ℕ → ℕ → Option PagedCache → Type 0
 KeepCall None lo len a new = (a ≡ NO_CACHE) × (new ≡ None)
 KeepCall (Some c) lo len a new =
     (c' : CacheState) × ((res : Result (Unit {0}) Refusal) × (Keeps c.cache c' lo len res
@@ -199,7 +199,7 @@ pub record Releases (old new : CacheState) (lo : ℕ) (res : Option Frames) : Ty
   pub none : IfNone res (find (begins_at lo) old.held ≡ None)
   pub unchanged : IfNone res (new ≡ old)
 
-abbrev pub ReleaseCall : Option Cached → ℕ → RangeAnswer → Option Cached → Type 0
+abbrev pub ReleaseCall : Option PagedCache → ℕ → RangeAnswer → Option PagedCache → Type 0
 ReleaseCall None lo a new = (a ≡ no_range NO_CACHE) × (new ≡ None)
 ReleaseCall (Some c) lo a new =
     (c' : CacheState) × ((res : Option Frames) × (Releases c.cache c' lo res
@@ -210,7 +210,7 @@ pub record Loses (old new : CacheState) (res : Option Frames) : Type 0 where
   pub none : IfNone res (old.held ≡ [])
   pub unchanged : IfNone res (new ≡ old)
 
-abbrev pub AnyCall : Option Cached → RangeAnswer → Option Cached → Type 0
+abbrev pub AnyCall : Option PagedCache → RangeAnswer → Option PagedCache → Type 0
 AnyCall None a new = (a ≡ no_range NO_CACHE) × (new ≡ None)
 AnyCall (Some c) a new =
     (c' : CacheState) × ((res : Option Frames) × (Loses c.cache c' res
@@ -218,12 +218,12 @@ AnyCall (Some c) a new =
 
 -- A new cache of a client that is elsewhere is in the slot, in place of what was there; or memory
 -- was refused, and that stays.
-abbrev pub ApartCall : Option Cached → Bool → ℕ → Option Cached → Type 0
+abbrev pub ApartCall : Option PagedCache → Bool → ℕ → Option PagedCache → Type 0
 ApartCall old sac a new =
     ((a ≡ 0) × (new ≡ Some (record { cache = new_cache 0 0 sac; granule = FRAME_BYTES })))
     ⊎ ((a ≡ 17) × (new ≡ old))
 
-abbrev pub counts_in : Option Cached → CacheCountsAnswer
+abbrev pub counts_in : Option PagedCache → CacheCountsAnswer
 counts_in None = record {
   refused = NO_CACHE;
   held = 0;
@@ -247,7 +247,7 @@ counts_in (Some c) = record {
   order_5 = length (magazine_of c.cache.magazines 5);
 }
 
-abbrev pub CountsCall : Option Cached → CacheCountsAnswer → Option Cached → Type 0
+abbrev pub CountsCall : Option PagedCache → CacheCountsAnswer → Option PagedCache → Type 0
 CountsCall old a new = (a ≡ counts_in old) × (new ≡ old)
 
 -- The calls that have a domain too.
@@ -272,8 +272,8 @@ pub record Refills (s t : State) (old new : CacheState) (frames limit most : ℕ
   pub refused : IfErr res (λ x. (new ≡ old) × ((IsRefillRefusal frames x × (t ≡ s))
       ⊎ IsStepOf s (request old frames limit) (reply.Refused x) t))
 
-abbrev pub RefillCall : Option Paged → Option Cached → ℕ → ℕ → ℕ → NumberAnswer → Option Paged
-    → Option Cached → Type 0
+abbrev pub RefillCall : Option Paged → Option PagedCache → ℕ → ℕ → ℕ → NumberAnswer → Option Paged
+    → Option PagedCache → Type 0
 RefillCall s None frames limit most a t new =
     (a ≡ no_number NO_CACHE) × ((t ≡ s) × (new ≡ None))
 RefillCall None (Some c) frames limit most a t new =
@@ -289,8 +289,8 @@ pub record Spills (s t : State) (old new : CacheState) (order most : ℕ) (res :
   pub spilled : IfOk res (IsSpilled old new s t order most)
   pub refused : IfErr res (λ x. (new ≡ old) × IsUnspilled old s t order x)
 
-abbrev pub SpillCall : Option Paged → Option Cached → ℕ → ℕ → NumberAnswer → Option Paged
-    → Option Cached → Type 0
+abbrev pub SpillCall : Option Paged → Option PagedCache → ℕ → ℕ → NumberAnswer → Option Paged
+    → Option PagedCache → Type 0
 SpillCall s None order most a t new = (a ≡ no_number NO_CACHE) × ((t ≡ s) × (new ≡ None))
 SpillCall None (Some c) order most a t new =
     (a ≡ no_number 23) × ((t ≡ None) × (new ≡ Some c))
@@ -307,8 +307,8 @@ pub record AllocatesBy (s t : State) (old new : CacheState) (frames limit : ℕ)
   pub refused : IfErr res (λ x. (IsOwnRefusal old frames x × (new ≡ old) × (t ≡ s))
       ⊎ IsDenied old new s t (request old frames limit) x)
 
-abbrev pub AllocByCall : Option Paged → Option Cached → ℕ → ℕ → RangeAnswer → Option Paged
-    → Option Cached → Type 0
+abbrev pub AllocByCall : Option Paged → Option PagedCache → ℕ → ℕ → RangeAnswer → Option Paged
+    → Option PagedCache → Type 0
 AllocByCall s None frames limit a t new = (a ≡ no_range NO_CACHE) × ((t ≡ s) × (new ≡ None))
 AllocByCall None (Some c) frames limit a t new =
     (a ≡ no_range 23) × ((t ≡ None) × (new ≡ Some c))
@@ -326,8 +326,8 @@ pub record UnmapsBy (s t : State) (old new : CacheState) (lo : ℕ) (res : Resul
       × (find (begins_at lo) old.held ≡ None) × (t ≡ s))
       ⊎ IsStepOf s (giving_up old lo) (reply.Refused x) t))
 
-abbrev pub UnmapByCall : Option Paged → Option Cached → ℕ → RangeAnswer → Option Paged
-    → Option Cached → Type 0
+abbrev pub UnmapByCall : Option Paged → Option PagedCache → ℕ → RangeAnswer → Option Paged
+    → Option PagedCache → Type 0
 UnmapByCall s None lo a t new = (a ≡ no_range NO_CACHE) × ((t ≡ s) × (new ≡ None))
 UnmapByCall None (Some c) lo a t new = (a ≡ no_range 23) × ((t ≡ None) × (new ≡ Some c))
 UnmapByCall (Some s) (Some c) lo a t new =
@@ -337,7 +337,7 @@ UnmapByCall (Some s) (Some c) lo a t new =
     × (new ≡ Some (with_cache c c')))))))
 
 -- A cache of a new client of the domain is there; or it was refused, and what was there stays.
-abbrev pub MakesIn : Paged → Option Cached → ℕ → Bool → NumberAnswer → Paged → Option Cached
+abbrev pub MakesIn : Paged → Option PagedCache → ℕ → Bool → NumberAnswer → Paged → Option PagedCache
     → Type 0
 MakesIn p old worker sac a q new =
     (s' : State) × ((q ≡ with_domain p s')
@@ -350,21 +350,21 @@ MakesIn p old worker sac a q new =
 
 -- A cache is made over a slot's domain. Single address cycles are refused in a domain of another
 -- granule than 4 KiB.
-pub record Makes (p : Paged) (old : Option Cached) (worker : ℕ) (sac : Bool) (a : NumberAnswer)
-    (t : Option Paged) (new : Option Cached) : Type 0 where
+pub record Makes (p : Paged) (old : Option PagedCache) (worker : ℕ) (sac : Bool) (a : NumberAnswer)
+    (t : Option Paged) (new : Option PagedCache) : Type 0 where
   pub no_cycles : sac ≡ true → p.granule ≢ FRAME_BYTES
       → (a ≡ no_number (refusal_number refusal.BadProfile)) × ((t ≡ Some p) × (new ≡ old))
   pub made : (sac ≡ true → p.granule ≡ FRAME_BYTES)
       → (q : Paged) × ((t ≡ Some q) × MakesIn p old worker sac a q new)
 
-abbrev pub MakeCall : Option Paged → Option Cached → ℕ → Bool → NumberAnswer → Option Paged
-    → Option Cached → Type 0
+abbrev pub MakeCall : Option Paged → Option PagedCache → ℕ → Bool → NumberAnswer → Option Paged
+    → Option PagedCache → Type 0
 MakeCall None old worker sac a t new = (a ≡ no_number 23) × ((t ≡ None) × (new ≡ old))
 MakeCall (Some p) old worker sac a t new = Makes p old worker sac a t new
 
 -- The cache is gone in any case, and its client is marked.
-abbrev pub EndCall : Option Paged → Option Cached → NumberAnswer → Option Paged
-    → Option Cached → Type 0
+abbrev pub EndCall : Option Paged → Option PagedCache → NumberAnswer → Option Paged
+    → Option PagedCache → Type 0
 EndCall s None a t new = (a ≡ no_number NO_CACHE) × ((t ≡ s) × (new ≡ None))
 EndCall None (Some c) a t new = (a ≡ no_number 23) × ((t ≡ None) × (new ≡ None))
 EndCall (Some s) (Some c) a t new =

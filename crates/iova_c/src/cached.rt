@@ -33,7 +33,7 @@ pub const FULL: u64 = 205;
 
 /// A cache, and how many bytes the frames of its domain have.
 #[derive(Drop)]
-pub struct Cached {
+pub struct PagedCache {
     pub(crate) cache: Cache,
     pub(crate) granule: Granule,
 }
@@ -41,7 +41,7 @@ pub struct Cached {
 /// A cache, or none.
 #[derive(Drop)]
 pub struct CacheSlot {
-    pub(crate) cache: Option<Cached>,
+    pub(crate) cache: Option<PagedCache>,
 }
 
 const _: () = prove!(size_of::<CacheSlot>() <= 512);
@@ -209,7 +209,7 @@ pub fn apart(alloc: Global, slot: &mut CacheSlot, sac: u64) -> u64
     let sac = sac != 0;
     match Cache::apart(alloc, sac) {
         Ok(cache) => {
-            slot.cache = Some(Cached {
+            slot.cache = Some(PagedCache {
                 cache,
                 granule: usual(),
             });

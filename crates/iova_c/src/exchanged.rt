@@ -5,7 +5,7 @@ ghost use Rattle.iova_c.specs.Slots.{is_set};
 ghost use Rattle.iova_c.specs.Caches.{MakeCall, MakesIn, no_number, no_range, count_answer, refusal_answer, RefillCall, SpillCall, AllocByCall, UnmapByCall, EndCall};
 
 use crate::answer::{NumberAnswer, RangeAnswer, a_range, no_range, number_of, of_number};
-use crate::cached::{CacheSlot, Cached, NO_CACHE, NO_ORDER};
+use crate::cached::{CacheSlot, NO_CACHE, NO_ORDER, PagedCache};
 use crate::slot::{Paged, Slot};
 use iova_cache::cache::Cache;
 use iova_range::limits::{FRAME_BYTES, ORDERS};
@@ -83,7 +83,7 @@ fn make_in(
     match Cache::open(alloc, &mut paged.domain, worker, sac) {
         Ok(opened) => {
             let number = opened.client();
-            cache.cache = Some(Cached {
+            cache.cache = Some(PagedCache {
                 cache: opened,
                 granule: paged.granule.again(),
             });

@@ -5,7 +5,7 @@ use Rattle.iova_range.specs.Frames.{Frames}
 use Rattle.iova_model.specs.Clients.{begins_at}
 use Rattle.iova_cache.specs.declared.cache.Kept.{Kept}
 use Rattle.iova_cache.specs.Caches.{CacheState}
-use Rattle.iova_c.specs.declared.cached.Cached.{Cached}
+use Rattle.iova_c.specs.declared.cached.PagedCache.{PagedCache}
 use Rattle.iova_c.specs.declared.answer.RangeAnswer.{RangeAnswer}
 use Rattle.iova_c.specs.Caches.{UnmapCall, Unmaps, kept_answer}
 use Rattle.iova_c.proofs.bytes.unmap_bytes_cached.Goals as goal
@@ -30,7 +30,7 @@ given_low c c' lo start (Ok r) a u is =
 given_low c c' lo start (Err x) a u is =
     let first = ap (λ (a : RangeAnswer). a.lo) is in let long = ap (λ (a : RangeAnswer). a.len) is in (omega (arith, first), omega (arith, long))
 
-low : (o n : Option Cached) (lo start : ℕ) (a : RangeAnswer) → UnmapCall o lo start a n → (a.lo ≤ lo) × (a.len ≤ 32)
+low : (o n : Option PagedCache) (lo start : ℕ) (a : RangeAnswer) → UnmapCall o lo start a n → (a.lo ≤ lo) × (a.len ≤ 32)
 low None n lo start a h =
     let first = ap (λ (a : RangeAnswer). a.lo) h.0 in let long = ap (λ (a : RangeAnswer). a.len) h.0 in (omega (arith, first), omega (arith, long))
 low (Some c) n lo start a h = given_low c.cache h.0 lo start h.1.0 a h.1.1.0 h.1.1.1.0

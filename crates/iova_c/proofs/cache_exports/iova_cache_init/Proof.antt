@@ -1,7 +1,7 @@
 -- The room at the pointer is written, with a slot that a call makes.
 use Rattle.iova_c.proofs.Words.{◌≡◌, List, [], ◌∷◌, ◌++◌, refl, sym, subst, full_share, Val, vptr, vunit, SProp, ent, id⊢, ftrue, WpFn, suffices, ‵, raw, ◌⊛◌, some, later, ◌$◌, ◌∵◌, !, qed, by, move, keep, use1, use2, split, join, pick, await, stop, of_opd, no_more, returns, enter, alloc_all, pass_all, free_all, look_at, get, through, sets, lands_as, fact, tables, yes, RattleType, Is, shows, part_at, Ptr, block_ptr, RawPtr, rawptr_vals, rawptr_Tells, in_a_block, plain, peeks, heard, nothing, calls_at, Lasts, lasts, on_entry, triple_of, Stays, stay_dropped, walk_of, Goes-dropped, fm, proved, leaves, never}
 use Rattle.std.specs.Prelude.{Option, None}
-use Rattle.iova_c.specs.declared.cached.Cached.{Cached}
+use Rattle.iova_c.specs.declared.cached.PagedCache.{PagedCache}
 use types.Kit.{feq_i, rewrite, fjoin}
 use types.Run.{init, unit_lit, assigns}
 use denote.RawPtr.{room_at}
@@ -41,6 +41,6 @@ iova_cache_init_spec 𝓤 𝓛 𝓜 𝓡 wired =
     assigns ! (of_opd ! (get ! refl)) (through ! refl (stop !)) (init ! 3 refl typed) $
     move ! (3 ∷ 0 ∷ []) $ use2 𝓛 (‵ (part_at R full_share r b o)) (part_in 𝓛 R refl full_share r b o v) $
     sets ! (of_opd ! (unit_lit !)) refl (tt, tt) $ returns ! (look_at ! 0 refl) $ free_all ! refl $
-    rewrite ! 0 (λ (d : Option Cached). ‵ (part_at R full_share (record { cache = d }) b o)) e refl $
+    rewrite ! 0 (λ (d : Option PagedCache). ‵ (part_at R full_share (record { cache = d }) b o)) e refl $
     keep ! (0 ∷ []) $ feq_i ! (List Val) (vunit ∷ []) (vunit ∷ []) refl $ nothing ! $ nothing ! $ fjoin ! $ nothing ! $ keep ! (0 ∷ 1 ∷ 2 ∷ 3 ∷ []) $
     by ! (leaves 𝓛 ended hs c (At (block_ptr b o)) vunit tt (tt, tt) (tt, tt))))))))))

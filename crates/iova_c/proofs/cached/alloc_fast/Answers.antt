@@ -1,4 +1,4 @@
-use Rattle.iova_c.proofs.AtOnce.{met_call}
+use Rattle.iova_c.proofs.FastCalls.{met_call}
 use Rattle.iova_c.proofs.cached.alloc_fast.Goals as goal
 
 pub returns-in-Some-clause-met : goal.returns-in-Some-clause-met

@@ -1,4 +1,4 @@
-use Rattle.iova_c.proofs.AtOnce.{given_up_call}
+use Rattle.iova_c.proofs.FastCalls.{given_up_call}
 use Rattle.iova_c.proofs.cached.unmap_fast.Goals as goal
 
 pub returns-in-Some-clause-given_up : goal.returns-in-Some-clause-given_up

@@ -1,7 +1,7 @@
 use Rattle.std.proofs.Common.{◌≡◌, ◌==◌, ◌∙◌, ℕ, zero, suc, Bool, true, false, not, Option, Some, refl, sym, arith, rules, subst}
 use Rattle.std.proofs.lemmas.Bool.Decides.{nat_tests}
 use Rattle.iova_c.specs.declared.answer.NumberAnswer.{NumberAnswer}
-use Rattle.iova_c.specs.declared.cached.Cached.{Cached}
+use Rattle.iova_c.specs.declared.cached.PagedCache.{PagedCache}
 use Rattle.iova_range.specs.declared.limits.TheConstants.{FRAME_BYTES}
 use Rattle.iova_c.specs.declared.slot.Paged.{Paged}
 use Rattle.iova_c.specs.Slots.{is_set}
@@ -13,7 +13,7 @@ set_is : (n : ℕ) → not (n == 0) ≡ is_set n
 set_is zero = refl
 set_is (suc n) = let e : (suc n == 0) ≡ false = grind (arith, nat_tests) in rw e refl
 
-made_in : (slot : Option Paged) (p q : Paged) (old new : Option Cached) (worker sac : ℕ) (a : NumberAnswer) → slot ≡ Some p
+made_in : (slot : Option Paged) (p q : Paged) (old new : Option PagedCache) (worker sac : ℕ) (a : NumberAnswer) → slot ≡ Some p
     → (is_set sac ≡ true → p.granule ≡ FRAME_BYTES) → MakesIn p old worker (not (sac == 0)) a q new → MakeCall slot old worker (is_set sac) a (Some q) new
 made_in slot p q old new worker sac a is fits makes =
     let made = subst (λ (b : Bool). MakesIn p old worker b a q new) (set_is sac) makes in

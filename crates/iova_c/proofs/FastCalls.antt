@@ -1,4 +1,4 @@
--- What is done at once is what the call does.
+-- What the fast call does is what the whole call does.
 use Rattle.std.specs.Prelude.{ℕ, ◌≡◌, ◌<◌, ◌≤◌, find, length, Option, Some, None, Result, Ok, Err, IfSome}
 use Rattle.std.proofs.Common.{refl}
 use Rattle.iova_range.specs.declared.limits.TheConstants.{MOST_CACHED}
@@ -9,10 +9,10 @@ use Rattle.iova_cache.specs.declared.cache.Unmet.TheVariants as unmet
 use Rattle.iova_cache.specs.declared.cache.Kept.{Kept}
 use Rattle.iova_cache.specs.declared.cache.Kept.TheVariants as kept
 use Rattle.iova_cache.specs.Caches.{CacheState, HasOrder, IsMet, IsGivenUp}
-use Rattle.iova_c.specs.declared.cached.Cached.{Cached}
+use Rattle.iova_c.specs.declared.cached.PagedCache.{PagedCache}
 use Rattle.iova_c.specs.Caches.{AllocCall, UnmapCall, a_range, with_cache}
 
-pub met_call : (o : Option Frames) (old : Cached) (c : CacheState) (frames limit : ℕ) → IfSome o (λ r. (order : ℕ) × HasOrder frames order × IsMet old.cache c order limit r)
+pub met_call : (o : Option Frames) (old : PagedCache) (c : CacheState) (frames limit : ℕ) → IfSome o (λ r. (order : ℕ) × HasOrder frames order × IsMet old.cache c order limit r)
     → IfSome o (λ r. AllocCall (Some old) frames limit (a_range r) (Some (with_cache old c)))
 met_call None old c frames limit met = tt
 met_call (Some r) old c frames limit met = (
@@ -32,7 +32,7 @@ met_call (Some r) old c frames limit met = (
   ),
 )
 
-pub given_up_call : (o : Option Frames) (old : Cached) (c : CacheState) (lo start : ℕ)
+pub given_up_call : (o : Option Frames) (old : PagedCache) (c : CacheState) (lo start : ℕ)
     → IfSome o (λ r. (find (begins_at lo) old.cache.held ≡ Some r) × (r.len ≤ MOST_CACHED) × IsGivenUp old.cache c r start) → IfSome o (λ r. length old.cache.ring < 255)
     → IfSome o (λ r. UnmapCall (Some old) lo start (a_range r) (Some (with_cache old c)))
 given_up_call None old c lo start up room = tt
