@@ -20,8 +20,8 @@ use Rattle.iova_core.specs.Domain.{IsStepOf}
 use Rattle.iova_cache.specs.Caches.{CacheState, entry_at, ranges_of}
 use Rattle.iova_cache.specs.Laws.{Act, Does}
 use Rattle.iova_cache.specs.Laws.Act.{Gives, TakesBack, Settles, Refills, Spills, Asks, Returns, Puts, Takes, Keeps, Releases, Grows, Refuses}
-use Rattle.iova_cache.specs.Worlds.{World, IsWorld, Event, AreOthers, AreApart, Moves, IsRequest, Happens, has_frame, held_over}
-use Rattle.iova_cache.specs.Worlds.Event.{Acts, Steps, Denies, Opens, Leaves}
+use Rattle.iova_cache.specs.Worlds.{World, IsWorld, WorldEvent, AreOthers, AreApart, Moves, IsRequest, Happens, has_frame, held_over}
+use Rattle.iova_cache.specs.Worlds.WorldEvent.{Acts, Steps, Denies, Opens, Leaves}
 use Rattle.iova_cache.specs.Reuse.{IsActTold, IsTold}
 use Rattle.iova_cache.proofs.Worlds.{acts_move, act_keeps, act_client, booked_at, other_at, put_others, drop_others, valid_step}
 use Rattle.iova_cache.proofs.Steps.{WaitsIn, WaitsSome, FlushMoves, waits_append, step_keeps, queued_waits, held_or_queued}
@@ -40,7 +40,7 @@ either_by f g (inr x) = inr (g x)
 
 -- What an event does to the flushes.
 
-abbrev pub EventMoves : Event → World → World → Type 0
+abbrev pub EventMoves : WorldEvent → World → World → Type 0
 EventMoves e w v =
     (v.domain.flushes ≡ w.domain.flushes)
     ⊎ (((e ≡ Steps step.Begin (reply.Begun (w.domain.flushes.start + 1))) × (v.domain.flushes ≡ with_flight w.domain.flushes))
@@ -61,7 +61,7 @@ act_flushes : (a : Act) (old new : CacheState) (came went : List Frames) (s t : 
 act_flushes a old new came went s t does moves =
     act_keeps (λ (u : State). u.flushes ≡ s.flushes) (λ x y st r request h p. request_flushes x y st r request h ∙ p) a old new came went s t does moves refl
 
-pub event_moves : (e : Event) (w v : World) → Happens e w v → EventMoves e w v
+pub event_moves : (e : WorldEvent) (w v : World) → Happens e w v → EventMoves e w v
 event_moves (Acts before later a old new came went) w v h = inl (act_flushes a old new came went w.domain v.domain h.1.1.0 h.1.1.1)
 event_moves (Steps st r) w v h = moved (flush_moves w.domain v.domain st r h.0)
   where
@@ -80,7 +80,7 @@ event_moves (Opens worker sac id) w v h = moved (flush_moves w.domain v.domain (
     moved (inr (inr ended)) = absurd (let bad : step.Open worker sac ≡ step.End ended.0 ended.1.0 = ended.1.1.0 in cc)
 event_moves (Leaves before later c) w v h = inl (ap (λ (s : State). s.flushes) h.1.1)
 
-pub event_starts : (e : Event) (w v : World) → EventMoves e w v → w.domain.flushes.start ≤ v.domain.flushes.start
+pub event_starts : (e : WorldEvent) (w v : World) → EventMoves e w v → w.domain.flushes.start ≤ v.domain.flushes.start
 event_starts e w v (inl h) = let a = ap (λ (f : Flushes). f.start) h in omega (arith, a)
 event_starts e w v (inr (inl h)) = let a = ap (λ (f : Flushes). f.start) h.1 in omega (arith, a)
 event_starts e w v (inr (inr h)) = ended h.1.0 h.1.1.1.1
@@ -89,7 +89,7 @@ event_starts e w v (inr (inr h)) = ended h.1.0 h.1.1.1.1
     ended true is = let a = ap (λ (f : Flushes). f.start) is in omega (arith, a)
     ended false is = let a = ap (λ (f : Flushes). f.start) is in omega (arith, a)
 
-pub event_newest : (e : Event) (w v : World) → EventMoves e w v → w.domain.flushes.newest ≤ v.domain.flushes.newest
+pub event_newest : (e : WorldEvent) (w v : World) → EventMoves e w v → w.domain.flushes.newest ≤ v.domain.flushes.newest
 event_newest e w v (inl h) = let a = ap (λ (f : Flushes). f.newest) h in omega (arith, a)
 event_newest e w v (inr (inl h)) = let a = ap (λ (f : Flushes). f.newest) h.1 in omega (arith, a)
 event_newest e w v (inr (inr h)) = ended h.1.0 h.1.1.1.1
@@ -222,7 +222,7 @@ still_ringed laws frame least f s t st r request h p = record {
     more (inl x) = let now = ap (λ (f : Flushes). f.newest) p.same in either_by (λ w. w) (λ lt. omega (arith, lt, now)) (ring_pending frame least s t st r p.valid h x)
     more (inr lt) = inr lt
 
-pub pending_event : StepLaws → (frame least : ℕ) (e : Event) (w v : World) → IsWorld w → Happens e w v → IsTold e w.domain → least ≤ w.domain.flushes.start → Pending frame least w
+pub pending_event : StepLaws → (frame least : ℕ) (e : WorldEvent) (w v : World) → IsWorld w → Happens e w v → IsTold e w.domain → least ≤ w.domain.flushes.start → Pending frame least w
     → Pending frame least v ⊎ (least < w.domain.flushes.newest)
 pending_event laws frame least (Acts before later a old new came went) w v is h told late (cached x) =
     either_by (λ y. cached (subst (Cached frame least) (sym h.1.0) y)) (λ lt. lt)

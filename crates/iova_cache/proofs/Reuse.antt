@@ -17,8 +17,8 @@ use Rattle.iova_cache.specs.Caches.{CacheState, entry_at, ranges_of}
 use Rattle.iova_cache.specs.Exchanges.{giving_up}
 use Rattle.iova_cache.specs.Laws.{Act}
 use Rattle.iova_cache.specs.Laws.Act.{Gives, TakesBack, Settles, Refills, Spills, Asks, Returns, Puts, Takes, Keeps, Releases, Grows, Refuses}
-use Rattle.iova_cache.specs.Worlds.{World, IsWorld, Event, AreOthers, NamesNone, Happens, Goes, has_frame, held_over}
-use Rattle.iova_cache.specs.Worlds.Event.{Acts, Steps, Denies, Opens, Leaves}
+use Rattle.iova_cache.specs.Worlds.{World, IsWorld, WorldEvent, AreOthers, NamesNone, Happens, Goes, has_frame, held_over}
+use Rattle.iova_cache.specs.Worlds.WorldEvent.{Acts, Steps, Denies, Opens, Leaves}
 use Rattle.iova_cache.specs.Reuse.{IsTold, GoesTold, GivesUp, GivesTo, IsGivenUpAt, IsGivenAt, IsWholeFlush, IsFlushedBetween}
 use Rattle.iova_cache.proofs.Domains.{given_held, same_range}
 use Rattle.iova_cache.proofs.Worlds.{only_went, acts_cover, one_event}
@@ -50,26 +50,26 @@ flies_passed n m [] flies = flies
 flies_passed n m (f ∷ []) flies = grind (arith, nat_tests)
 flies_passed n m (f ∷ e ∷ fs) flies = grind (arith, nat_tests, flies_passed n m (e ∷ fs))
 
-abbrev Whole : List Event → Type 0
+abbrev Whole : List WorldEvent → Type 0
 Whole es = (b : ℕ) × ((d : ℕ) × IsWholeFlush es b d)
 
 -- one with a greater number ends well, which is in flight at the start
-abbrev EndsOne : ℕ → List Event → World → Type 0
+abbrev EndsOne : ℕ → List WorldEvent → World → Type 0
 EndsOne k es w = (d : ℕ) × ((n : ℕ) × ((slice_get es d ≡ Some (Steps (step.End n true) reply.Ended)) × ((k < n) × (is_in_flight n w.domain.flushes.in_flight ≡ true))))
 
-whole_later : (e : Event) (es : List Event) → Whole es → Whole (e ∷ es)
+whole_later : (e : WorldEvent) (es : List WorldEvent) → Whole es → Whole (e ∷ es)
 whole_later e es h =
     let f = h.1.1 in
     (suc h.0, (suc h.1.0, record { number = f.number; begins = f.begins; ends = f.ends; order = omega (arith, f.order) }))
 
-ends_later : (k : ℕ) (e : Event) (es : List Event) (w u : World) → ((n : ℕ) → is_in_flight n u.domain.flushes.in_flight ≡ true → is_in_flight n w.domain.flushes.in_flight ≡ true) → EndsOne k es u → EndsOne k (e ∷ es) w
+ends_later : (k : ℕ) (e : WorldEvent) (es : List WorldEvent) (w u : World) → ((n : ℕ) → is_in_flight n u.domain.flushes.in_flight ≡ true → is_in_flight n w.domain.flushes.in_flight ≡ true) → EndsOne k es u → EndsOne k (e ∷ es) w
 ends_later k e es w u back h = (suc h.0, (h.1.0, (h.1.1.0, (h.1.1.1.0, back h.1.0 h.1.1.1.1))))
 
-either_later : (k : ℕ) (e : Event) (es : List Event) (w u : World) → ((n : ℕ) → is_in_flight n u.domain.flushes.in_flight ≡ true → is_in_flight n w.domain.flushes.in_flight ≡ true) → Whole es ⊎ EndsOne k es u → Whole (e ∷ es) ⊎ EndsOne k (e ∷ es) w
+either_later : (k : ℕ) (e : WorldEvent) (es : List WorldEvent) (w u : World) → ((n : ℕ) → is_in_flight n u.domain.flushes.in_flight ≡ true → is_in_flight n w.domain.flushes.in_flight ≡ true) → Whole es ⊎ EndsOne k es u → Whole (e ∷ es) ⊎ EndsOne k (e ∷ es) w
 either_later k e es w u back (inl h) = inl (whole_later e es h)
 either_later k e es w u back (inr h) = inr (ends_later k e es w u back h)
 
-either_begin : (k : ℕ) (e : Event) (es : List Event) (w u : World) → e ≡ Steps step.Begin (reply.Begun (w.domain.flushes.start + 1)) → u.domain.flushes ≡ with_flight w.domain.flushes → Whole es ⊎ EndsOne k es u → Whole (e ∷ es) ⊎ EndsOne k (e ∷ es) w
+either_begin : (k : ℕ) (e : WorldEvent) (es : List WorldEvent) (w u : World) → e ≡ Steps step.Begin (reply.Begun (w.domain.flushes.start + 1)) → u.domain.flushes ≡ with_flight w.domain.flushes → Whole es ⊎ EndsOne k es u → Whole (e ∷ es) ⊎ EndsOne k (e ∷ es) w
 either_begin k e es w u is same (inl h) = inl (whole_later e es h)
 either_begin k e es w u is same (inr h) =
     let n = h.1.0 in
@@ -82,7 +82,7 @@ either_begin k e es w u is same (inr h) =
         let begun = ap (λ e. Some e) is ∙ ap (λ (n : ℕ). Some (Steps step.Begin (reply.Begun n))) (sym new) in
         inl (0, (suc h.0, record { number = h.1.0; begins = begun; ends = h.1.1.0; order = omega arith }))
 
-either_end : (k : ℕ) (e : Event) (es : List Event) (w u : World) (n : ℕ) (ok : Bool) → e ≡ Steps (step.End n ok) reply.Ended → is_in_flight n w.domain.flushes.in_flight ≡ true → u.domain.flushes ≡ after_end w.domain.flushes n ok
+either_end : (k : ℕ) (e : WorldEvent) (es : List WorldEvent) (w u : World) (n : ℕ) (ok : Bool) → e ≡ Steps (step.End n ok) reply.Ended → is_in_flight n w.domain.flushes.in_flight ≡ true → u.domain.flushes ≡ after_end w.domain.flushes n ok
     → w.domain.flushes.newest ≤ k → (u.domain.flushes.newest ≤ k → Whole es ⊎ EndsOne k es u) → Whole (e ∷ es) ⊎ EndsOne k (e ∷ es) w
 either_end k e es w u n false is flies same low rest =
     let now = ap (λ (f : Flushes). f.newest) same in
@@ -95,7 +95,7 @@ either_end k e es w u n true is flies same low rest = which (nat_lt k n) refl
         let now = ap (λ (f : Flushes). f.newest) same in
         either_later k e es w u (λ m at. flies_without m n w.domain.flushes.in_flight (subst (λ (f : Flushes). is_in_flight m f.in_flight ≡ true) same at)) (rest (grind (arith, nat_tests)))
 
-flush_found : (k : ℕ) (es : List Event) (w v : World) → Goes es w v → w.domain.flushes.newest ≤ k → k < v.domain.flushes.newest → Whole es ⊎ EndsOne k es w
+flush_found : (k : ℕ) (es : List WorldEvent) (w v : World) → Goes es w v → w.domain.flushes.newest ≤ k → k < v.domain.flushes.newest → Whole es ⊎ EndsOne k es w
 flush_found k [] w v h low lt = absurd (let same = ap (λ (w : World). w.domain.flushes.newest) h in omega (arith, same, low, lt))
 flush_found k (e ∷ es) w v h low lt = moved (event_moves e w h.0 h.1.0) (λ low. flush_found k es h.0 v h.1.1 low lt)
   where
@@ -109,7 +109,7 @@ flush_found k (e ∷ es) w v h low lt = moved (event_moves e w h.0 h.1.0) (λ lo
     moved (inr (inr d)) rest = either_end k e es w h.0 d.0 d.1.0 d.1.1.0 d.1.1.1.0 d.1.1.1.1 low rest
 
 -- where one with a greater number than that of the last that had begun has ended well, it began meanwhile
-whole_flush : (k : ℕ) (es : List Event) (w v : World) → IsWorld w → Goes es w v → w.domain.flushes.start ≤ k → k < v.domain.flushes.newest → Whole es
+whole_flush : (k : ℕ) (es : List WorldEvent) (w v : World) → IsWorld w → Goes es w v → w.domain.flushes.start ≤ k → k < v.domain.flushes.newest → Whole es
 whole_flush k es w v is h late lt = only (flush_found k es w v h (let low = is.valid.flushes.newest in omega (arith, low, late)) lt)
   where
     only : Whole es ⊎ EndsOne k es w → Whole es
@@ -177,7 +177,7 @@ step_given laws frame least (step.Drain ring by) r w v is now h has p = absurd (
 step_given laws frame least (step.Close worker id) r w v is now h has p = absurd (subst (λ r. IsReplyTo (step.Close worker id) r) (sym h.0.1) (laws.kinds w.domain (step.Close worker id) h.0.0))
 step_given laws frame least (step.CloseOne worker id) r w v is now h has p = absurd (subst (λ r. IsReplyTo (step.CloseOne worker id) r) (sym h.0.1) (laws.kinds w.domain (step.CloseOne worker id) h.0.0))
 
-event_given : StepLaws → (frame least : ℕ) (e : Event) (w v : World) → IsWorld w → IsWorld v → Happens e w v → IsTold e w.domain → least ≤ w.domain.flushes.start → GivesTo frame e → Pending frame least w → least < w.domain.flushes.newest
+event_given : StepLaws → (frame least : ℕ) (e : WorldEvent) (w v : World) → IsWorld w → IsWorld v → Happens e w v → IsTold e w.domain → least ≤ w.domain.flushes.start → GivesTo frame e → Pending frame least w → least < w.domain.flushes.newest
 event_given laws frame least (Acts before later (Gives order limit r) old new came went) w v is now h told late gives p =
     act_given laws frame least before later (Gives order limit r) old new came went w v is now h told late (gained_held frame r old.held new.held h.1.1.0.0.held gives) p
 event_given laws frame least (Acts before later (Asks s t frames limit r) old new came went) w v is now h told late gives p =
@@ -209,7 +209,7 @@ event_given laws frame least (Leaves before later c) w v is now h told late give
 
 -- What is given up is pending.
 
-event_up : StepLaws → (frame : ℕ) (e : Event) (w v : World) → IsWorld w → Happens e w v → IsTold e w.domain → GivesUp frame e → Pending frame w.domain.flushes.start v
+event_up : StepLaws → (frame : ℕ) (e : WorldEvent) (w v : World) → IsWorld w → Happens e w v → IsTold e w.domain → GivesUp frame e → Pending frame w.domain.flushes.start v
 event_up laws frame (Acts before later (TakesBack r count) old new came went) w v is h told up =
     let least = w.domain.flushes.start in
     let waits = subst (WaitsIn frame least) (sym h.1.1.0.0.ring) (waits_last frame least old.ring (entry_at r count) up told) in
@@ -253,24 +253,24 @@ event_up laws frame (Leaves before later c) w v is h told up = absurd up
 
 -- Several events.
 
-next_world : StepLaws → (e : Event) (w v : World) → IsWorld w → Happens e w v → IsWorld v
+next_world : StepLaws → (e : WorldEvent) (w v : World) → IsWorld w → Happens e w v → IsWorld v
 next_world laws e w v is h = one_event laws.others laws.refusals laws.valid e w v is h
 
 -- so many of them lead to a world in which a flush with a greater number has ended well
-abbrev FlushedBefore : ℕ → List Event → World → ℕ → Type 0
+abbrev FlushedBefore : ℕ → List WorldEvent → World → ℕ → Type 0
 FlushedBefore least es w n = (u : World) × (Goes (take n es) w u × (least < u.domain.flushes.newest))
 
-before_later : (least : ℕ) (e : Event) (es : List Event) (w u : World) (n : ℕ) → Happens e w u → FlushedBefore least es u n → FlushedBefore least (e ∷ es) w (suc n)
+before_later : (least : ℕ) (e : WorldEvent) (es : List WorldEvent) (w u : World) (n : ℕ) → Happens e w u → FlushedBefore least es u n → FlushedBefore least (e ∷ es) w (suc n)
 before_later least e es w u n h f = (f.0, ((u, (h, f.1.0)), f.1.1))
 
-stays_flushed : (least : ℕ) (es : List Event) (w v : World) (n : ℕ) → GoesTold es w v → least < w.domain.flushes.newest → FlushedBefore least es w n
+stays_flushed : (least : ℕ) (es : List WorldEvent) (w v : World) (n : ℕ) → GoesTold es w v → least < w.domain.flushes.newest → FlushedBefore least es w n
 stays_flushed least es w v zero h lt = (w, (refl, lt))
 stays_flushed least [] w v (suc n) h lt = (w, (refl, lt))
 stays_flushed least (e ∷ es) w v (suc n) h lt =
     let more = event_newest e w h.0 (event_moves e w h.0 h.1.0) in
     before_later least e es w h.0 n h.1.0 (stays_flushed least es h.0 v n h.1.1.1 (omega (arith, more, lt)))
 
-pending_flushed : StepLaws → (frame least : ℕ) (es : List Event) (w v : World) (n : ℕ) (g : Event) → IsWorld w → GoesTold es w v → least ≤ w.domain.flushes.start → Pending frame least w → slice_get es n ≡ Some g → GivesTo frame g
+pending_flushed : StepLaws → (frame least : ℕ) (es : List WorldEvent) (w v : World) (n : ℕ) (g : WorldEvent) → IsWorld w → GoesTold es w v → least ≤ w.domain.flushes.start → Pending frame least w → slice_get es n ≡ Some g → GivesTo frame g
     → FlushedBefore least es w n
 pending_flushed laws frame least [] w v n g is h late p at gives = absurd cc
 pending_flushed laws frame least (e ∷ es) w v zero g is h late p at gives =
@@ -294,14 +294,14 @@ get_taken (suc n) [] i x is = absurd cc
 get_taken (suc n) (y ∷ ys) zero x is = (omega arith, is)
 get_taken (suc n) (y ∷ ys) (suc i) x is = let h = get_taken n ys i x is in (omega (arith, h.0), h.1)
 
-goes_untold : (es : List Event) (w v : World) → GoesTold es w v → Goes es w v
+goes_untold : (es : List WorldEvent) (w v : World) → GoesTold es w v → Goes es w v
 goes_untold [] w v h = h
 goes_untold (e ∷ es) w v h = (h.0, (h.1.0, goes_untold es h.0 v h.1.1.1))
 
-not_begun : (frame n : ℕ) (e : Event) → GivesUp frame e → e ≡ Steps step.Begin (reply.Begun n) → ⊥
+not_begun : (frame n : ℕ) (e : WorldEvent) → GivesUp frame e → e ≡ Steps step.Begin (reply.Begun n) → ⊥
 not_begun frame n e up is = absurd (subst (GivesUp frame) is up)
 
-pub reused : StepLaws → (frame : ℕ) (es : List Event) (w v : World) (i n : ℕ) → IsWorld w → GoesTold es w v → i < n → IsGivenUpAt es i frame → IsGivenAt es n frame → IsFlushedBetween es i n
+pub reused : StepLaws → (frame : ℕ) (es : List WorldEvent) (w v : World) (i n : ℕ) → IsWorld w → GoesTold es w v → i < n → IsGivenUpAt es i frame → IsGivenAt es n frame → IsFlushedBetween es i n
 reused laws frame es w v i zero is h lt up gives = absurd (omega arith)
 reused laws frame [] w v i (suc n) is h lt up gives = absurd (let at = up.is in cc)
 reused laws frame (e ∷ es) w v zero (suc n) is h lt up gives =

@@ -18,8 +18,8 @@ use Rattle.iova_cache.specs.Caches.{CacheState, ranges_of, new_cache}
 use Rattle.iova_cache.specs.Exchanges.{giving_up, Gives as GivesAll, Returns as ReturnsAll, Ends, StopsAt}
 use Rattle.iova_cache.specs.Laws.{Act, Does, IsWhole}
 use Rattle.iova_cache.specs.Laws.Act.{Gives, TakesBack, Settles, Refills, Spills, Asks, Returns, Puts, Takes, Keeps, Releases, Grows, Refuses}
-use Rattle.iova_cache.specs.Worlds.{World, IsWorld, Event, IsBooked, AreBooked, AreOthers, AreApart, Moves, NamesNone, IsRequest, Happens, Goes}
-use Rattle.iova_cache.specs.Worlds.Event.{Acts, Steps, Denies, Opens, Leaves}
+use Rattle.iova_cache.specs.Worlds.{World, IsWorld, WorldEvent, IsBooked, AreBooked, AreOthers, AreApart, Moves, NamesNone, IsRequest, Happens, Goes}
+use Rattle.iova_cache.specs.Worlds.WorldEvent.{Acts, Steps, Denies, Opens, Leaves}
 use Rattle.iova_cache.proofs.Runs.{act_weighs}
 use Rattle.iova_cache.proofs.Domains.{given_held, queued_held, same_range}
 
@@ -313,7 +313,7 @@ acts_move law keeps valid before later a old new came went w v is h =
     let covers = acts_cover before later a old new came went w v is h in
     act_moves law keeps valid a old new came went (ranges_of new) w.domain v.domain is.valid covers.1 h.1.1.0 h.1.1.1
 
-pub one_event : OthersKeepTheirHoldings → RefusalsKeepTheState → StepsKeepValidity → (e : Event) (w v : World) → IsWorld w → Happens e w v → IsWorld v
+pub one_event : OthersKeepTheirHoldings → RefusalsKeepTheState → StepsKeepValidity → (e : WorldEvent) (w v : World) → IsWorld w → Happens e w v → IsWorld v
 one_event law keeps valid (Acts before later a old new came went) w v is h =
     let b = rw h.0 at is.booked in
     let p = rw h.0 at is.apart in
@@ -358,6 +358,6 @@ one_event law keeps valid (Leaves before later c) w v is h =
       apart = rw h.1.0 (drop_apart before later c p);
     }
 
-pub places_kept : OthersKeepTheirHoldings → RefusalsKeepTheState → StepsKeepValidity → (es : List Event) (w v : World) → IsWorld w → Goes es w v → IsWorld v
+pub places_kept : OthersKeepTheirHoldings → RefusalsKeepTheState → StepsKeepValidity → (es : List WorldEvent) (w v : World) → IsWorld w → Goes es w v → IsWorld v
 places_kept law keeps valid [] w v is h = subst IsWorld (sym h) is
 places_kept law keeps valid (e ∷ es) w v is h = places_kept law keeps valid es h.0 v (one_event law keeps valid e w h.0 is h.1.0) h.1.1

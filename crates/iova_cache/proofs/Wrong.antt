@@ -3,7 +3,7 @@ use Rattle.std.proofs.Common.{◌≡◌, ◌≢◌, ℕ, List, [], ◌∷◌, �
 use Rattle.iova_model.specs.declared.step.Step.{Step}
 use Rattle.iova_model.specs.Effects.{client_named}
 use Rattle.iova_cache.specs.Caches.{CacheState}
-use Rattle.iova_cache.specs.Worlds.{World, Event, AreOthers, NamesNone, Goes}
+use Rattle.iova_cache.specs.Worlds.{World, WorldEvent, AreOthers, NamesNone, Goes}
 use Rattle.iova_cache.specs.Reuse.{GoesTold}
 use Rattle.iova_cache.specs.Wrong.{Mixed, Deed, AreDone, events_of}
 use Rattle.iova_cache.specs.Wrong.Deed.{Rightly, Turns, Errs, Asks}
@@ -26,6 +26,6 @@ seen_by_others (Asks before later c st r ∷ ds) m n h =
     (h.0.world, ((asked.1.1.0, (asked.1.1.1, names_none st c.client m.world.caches asked.0 asked.1.0)), (tt, seen_by_others ds h.0 n h.1.1)))
 
 -- without what caches learn of flushes
-pub goes : (es : List Event) (w v : World) → GoesTold es w v → Goes es w v
+pub goes : (es : List WorldEvent) (w v : World) → GoesTold es w v → Goes es w v
 goes [] w v h = h
 goes (e ∷ es) w v h = (h.0, (h.1.0, goes es h.0 v h.1.1.1))

@@ -75,15 +75,15 @@ IsRequest (step.CloseOne w id) = ⊥
 -- What happens: a cache does something, with its domain or without; the domain takes a step of
 -- somebody else's, or refuses one of a cache's; a cache of a new client is opened; one is left,
 -- whose client then is as any other.
-pub data Event : Type 0 where
+pub data WorldEvent : Type 0 where
   Acts : (before later : List CacheState) (a : Act) (old new : CacheState)
-      (came went : List Frames) → Event
-  Steps : (st : Step) (r : Reply) → Event
-  Denies : (st : Step) (x : Refusal) → Event
-  Opens : (worker : ℕ) (sac : Bool) (id : ℕ) → Event
-  Leaves : (before later : List CacheState) (c : CacheState) → Event
+      (came went : List Frames) → WorldEvent
+  Steps : (st : Step) (r : Reply) → WorldEvent
+  Denies : (st : Step) (x : Refusal) → WorldEvent
+  Opens : (worker : ℕ) (sac : Bool) (id : ℕ) → WorldEvent
+  Leaves : (before later : List CacheState) (c : CacheState) → WorldEvent
 
-abbrev pub Happens : Event → World → World → Type 0
+abbrev pub Happens : WorldEvent → World → World → Type 0
 Happens (Acts before later a old new came went) w v =
     (w.caches ≡ before ++ old ∷ later) × ((v.caches ≡ before ++ new ∷ later)
     × (Does a old came went new × Moves a w.domain v.domain))
@@ -98,7 +98,7 @@ Happens (Opens worker sac id) w v =
 Happens (Leaves before later c) w v =
     (w.caches ≡ before ++ c ∷ later) × ((v.caches ≡ before ++ later) × (v.domain ≡ w.domain))
 
-abbrev pub Goes : List Event → World → World → Type 0
+abbrev pub Goes : List WorldEvent → World → World → Type 0
 Goes [] w v = v ≡ w
 Goes (e ∷ es) w v = (u : World) × (Happens e w u × Goes es u v)
 
@@ -111,7 +111,7 @@ pub record IsWorld (w : World) : Type 0 where
 -- Whatever happens, one after another, each cache has what its client holds, and no two are of one
 -- client.
 abbrev pub PlacesAreKept : Type 0
-PlacesAreKept = (es : List Event) (w v : World) → IsWorld w → Goes es w v → IsWorld v
+PlacesAreKept = (es : List WorldEvent) (w v : World) → IsWorld w → Goes es w v → IsWorld v
 
 -- Who uses what.
 
@@ -142,5 +142,5 @@ has_frame frame r = if covers frame r then 1 else 0
 -- Whatever happens, one after another, each frame is in one range at most of those that users hold.
 abbrev pub FramesHaveOneUser : Type 0
 FramesHaveOneUser =
-    (es : List Event) (w v : World) → IsWorld w → Goes es w v
+    (es : List WorldEvent) (w v : World) → IsWorld w → Goes es w v
     → (frame : ℕ) → sum_by (has_frame frame) (in_use v) ≤ 1

@@ -5,8 +5,8 @@ use Rattle.iova_model.specs.declared.step.Reply.{Reply}
 use Rattle.iova_model.specs.Effects.{client_named}
 use Rattle.iova_core.specs.Domain.{IsStepOf}
 use Rattle.iova_cache.specs.Caches.{CacheState}
-use Rattle.iova_cache.specs.Worlds.{World, IsWorld, Event, Happens, AreOthers, has_frame, in_use}
-use Rattle.iova_cache.specs.Worlds.Event.{Leaves, Steps}
+use Rattle.iova_cache.specs.Worlds.{World, IsWorld, WorldEvent, Happens, AreOthers, has_frame, in_use}
+use Rattle.iova_cache.specs.Worlds.WorldEvent.{Leaves, Steps}
 use Rattle.iova_cache.specs.Reuse.{IsTold, IsGivenUpAt, IsGivenAt, IsFlushedBetween}
 
 -- a domain and its right caches, and the wrong ones beside them
@@ -19,7 +19,7 @@ pub record Mixed : Type 0 where
 -- anything: ranges that wait for a flush, the same one twice, some that it never had; or its client
 -- asks the domain for any step of its own.
 pub data Deed : Type 0 where
-  Rightly : (e : Event) → Deed
+  Rightly : (e : WorldEvent) → Deed
   Turns : (before later : List CacheState) (c : CacheState) → Deed
   Errs : (before later : List CacheState) (old new : CacheState) → Deed
   Asks : (before later : List CacheState) (c : CacheState) (st : Step) (r : Reply) → Deed
@@ -45,7 +45,7 @@ AreDone (d ∷ ds) m n = (k : Mixed) × (IsDone d m k × AreDone ds k n)
 
 -- What of it the domain and the right caches see: all but what a wrong one does by itself. A right
 -- cache that turns is left, and its client is as any other.
-abbrev pub events_of : List Deed → List Event
+abbrev pub events_of : List Deed → List WorldEvent
 events_of [] = []
 events_of (Rightly e ∷ ds) = e ∷ events_of ds
 events_of (Turns before later c ∷ ds) = Leaves before later c ∷ events_of ds

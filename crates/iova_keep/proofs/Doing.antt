@@ -13,7 +13,7 @@ use Rattle.iova_sink.specs.Calls.{Invalidation, Call, good_in, good_calls}
 use Rattle.iova_model.specs.Effects.{ended_well}
 use Rattle.iova_keep.specs.Steps.{Takes}
 use Rattle.iova_keep.specs.Views.{WhereKnown, IsBeginHeard}
-use Rattle.iova_keep.specs.Events.{Event, Ran, Invalidated, Leads, sink_calls, Does, Unmapping, run, not_run, UnmapFirst, tried, full, UnmapAgain, again, Unmap, once, not_begun, flushed, refused, done, failed}
+use Rattle.iova_keep.specs.Events.{CallEvent, Ran, Invalidated, Leads, sink_calls, Does, Unmapping, run, not_run, UnmapFirst, tried, full, UnmapAgain, again, Unmap, once, not_begun, flushed, refused, done, failed}
 use Rattle.iova_keep.specs.Answers.{UnmapsWith, FlushesWith}
 
 -- what two calls of a keeper do, one after the other
@@ -30,11 +30,11 @@ known_one (Some s) (Some t) P R p f = f s t p
 
 -- No hold calls the sink.
 
-silent : (domain : ℕ) {st : Step} {held : Totals} {r : Reply} {es : List Event} → Unmapping st held r es → sink_calls domain es ≡ []
+silent : (domain : ℕ) {st : Step} {held : Totals} {r : Reply} {es : List CallEvent} → Unmapping st held r es → sink_calls domain es ≡ []
 silent domain (run r) = refl
 silent domain not_run = refl
 
-silent_first : (domain : ℕ) {st : Step} {held : Totals} {o b : Option Reply} {es : List Event} → UnmapFirst st held o b es → sink_calls domain es ≡ []
+silent_first : (domain : ℕ) {st : Step} {held : Totals} {o b : Option Reply} {es : List CallEvent} → UnmapFirst st held o b es → sink_calls domain es ≡ []
 silent_first domain (tried r es other u) = silent domain u
 silent_first domain (full b) = refl
 
@@ -49,7 +49,7 @@ in_one_hold st held o b r domain calls s t is none d = record {
   leads = d.leads;
 }
 
-begins_none : (st : Step) (held : Totals) (e : Refusal) {o b : Option Reply} {es : List Event} → UnmapFirst st held o b es → b ≡ Some (reply.Refused e) → Unmap st held (reply.Refused refusal.RingFull) es
+begins_none : (st : Step) (held : Totals) (e : Refusal) {o b : Option Reply} {es : List CallEvent} → UnmapFirst st held o b es → b ≡ Some (reply.Refused e) → Unmap st held (reply.Refused refusal.RingFull) es
 begins_none st held e (tried r es other u) is = absurd cc
 begins_none st held e (full begin) is =
     let same : begin ≡ reply.Refused e = cc in
@@ -63,10 +63,10 @@ in_vain st held o b e domain calls s t is d = record {
   leads = d.leads;
 }
 
-silent_again : (domain : ℕ) {st : Step} {held : Totals} {n : ℕ} {ok : Bool} {o : Option Reply} {es : List Event} → UnmapAgain st held n ok o es → sink_calls domain es ≡ []
+silent_again : (domain : ℕ) {st : Step} {held : Totals} {n : ℕ} {ok : Bool} {o : Option Reply} {es : List CallEvent} → UnmapAgain st held n ok o es → sink_calls domain es ≡ []
 silent_again domain (again end r es u) = silent domain u
 
-two_holds : (st : Step) (held : Totals) (n : ℕ) (ok : Bool) (r : Reply) (domain : ℕ) (before now : List Call) (s m t : State) {o b : Option Reply} {es : List Event} → UnmapFirst st held o b es → b ≡ Some (reply.Begun n)
+two_holds : (st : Step) (held : Totals) (n : ℕ) (ok : Bool) (r : Reply) (domain : ℕ) (before now : List Call) (s m t : State) {o b : Option Reply} {es : List CallEvent} → UnmapFirst st held o b es → b ≡ Some (reply.Begun n)
     → Leads s es m → now ≡ before ++ Invalidation domain n ok ∷ [] → Does (UnmapAgain st held n ok (Some r)) m t → Does (UnmapsWith st held r domain before now) s t
 two_holds st held n ok r domain before now s m t (tried q es other u) is l told d = absurd cc
 two_holds st held n ok r domain before now s m t (full begin) is l told d =

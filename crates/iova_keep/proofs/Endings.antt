@@ -19,17 +19,17 @@ use Rattle.iova_keep.specs.declared.ending.Why.TheVariants as why
 use Rattle.iova_keep.specs.Steps.{Takes}
 use Rattle.iova_keep.specs.Views.{SeatState, WhereKnown, IsLowered, LowersTold, Tells, stat_of, left_of}
 use Rattle.iova_keep.specs.Events
-use Rattle.iova_keep.specs.Events.{Event, Ran, NotRun, Invalidated, Leads, sink_calls, Unmapping, run, not_run, Closing, stops, queues, CloseFirst, closed, closed_full, CloseAgain, closed_again, full_at_once, full_again, CloseRest, last, another, Answered, in_one_hold, in_more, Draining, drains, none_left, DrainAll, drained, no_worker, idle, not_flushed, flushed_and_drained}
+use Rattle.iova_keep.specs.Events.{CallEvent, Ran, NotRun, Invalidated, Leads, sink_calls, Unmapping, run, not_run, Closing, stops, queues, CloseFirst, closed, closed_full, CloseAgain, closed_again, full_none_queued, full_again, CloseRest, last, another, Answered, in_one_hold, in_more, Draining, drains, none_left, DrainAll, drained, no_worker, idle, not_flushed, flushed_and_drained}
 use Rattle.iova_keep.specs.Answers.{ClosesFirst, ClosesAgain, Leaves, DoesRest, DoesEndClient, DoesFlush, DrainsAll, DoesTimeout}
 use Rattle.iova_keep.proofs.Doing.{known_both, known_one}
 
-pub leads_more : (s m t : State) (es fs : List Event) → Leads s es m → Leads m fs t → Leads s (es ++ fs) t
+pub leads_more : (s m t : State) (es fs : List CallEvent) → Leads s es m → Leads m fs t → Leads s (es ++ fs) t
 leads_more s m t [] fs l d = subst (λ x. Leads x fs t) l d
 leads_more s m t (Ran st r ∷ es) fs l d = let rest = l.2 in (l.0, l.1, leads_more l.0 m t es fs rest d)
 leads_more s m t (NotRun st held ∷ es) fs l d = (l.0, leads_more s m t es fs l.1 d)
 leads_more s m t (Invalidated n ok ∷ es) fs l d = leads_more s m t es fs l d
 
-pub sink_calls-more : (number : ℕ) (es fs : List Event) → sink_calls number (es ++ fs) ≡ sink_calls number es ++ sink_calls number fs
+pub sink_calls-more : (number : ℕ) (es fs : List CallEvent) → sink_calls number (es ++ fs) ≡ sink_calls number es ++ sink_calls number fs
 sink_calls-more number [] fs = refl
 sink_calls-more number (Ran st r ∷ es) fs = sink_calls-more number es fs
 sink_calls-more number (NotRun st held ∷ es) fs = sink_calls-more number es fs
@@ -37,24 +37,24 @@ sink_calls-more number (Invalidated n ok ∷ es) fs = ap (λ cs. Invalidation nu
 
 -- No hold calls the sink.
 
-silent : (number : ℕ) {st : Step} {held : Totals} {r : Reply} {es : List Event} → Unmapping st held r es → sink_calls number es ≡ []
+silent : (number : ℕ) {st : Step} {held : Totals} {r : Reply} {es : List CallEvent} → Unmapping st held r es → sink_calls number es ≡ []
 silent number (run r) = refl
 silent number not_run = refl
 
-closing_silent : (number : ℕ) {st : Step} {held left : Totals} {r : Reply} {es : List Event} → Closing st held left r es → sink_calls number es ≡ []
+closing_silent : (number : ℕ) {st : Step} {held left : Totals} {r : Reply} {es : List CallEvent} → Closing st held left r es → sink_calls number es ≡ []
 closing_silent number (stops held left r es same other u) = silent number u
 closing_silent number (queues held mid left q r es moved c) = closing_silent number c
 
-then_begin_silent : (number : ℕ) (es : List Event) (b : Reply) → sink_calls number es ≡ [] → sink_calls number (es ++ Ran step.Begin b ∷ []) ≡ []
+then_begin_silent : (number : ℕ) (es : List CallEvent) (b : Reply) → sink_calls number es ≡ [] → sink_calls number (es ++ Ran step.Begin b ∷ []) ≡ []
 then_begin_silent number es b e = sink_calls-more number es (Ran step.Begin b ∷ []) ∙ ap (λ cs. cs ++ []) e
 
-first_silent : (number : ℕ) {st : Step} {held left : Totals} {o b : Option Reply} {es : List Event} → CloseFirst st held left o b es → sink_calls number es ≡ []
+first_silent : (number : ℕ) {st : Step} {held left : Totals} {o b : Option Reply} {es : List CallEvent} → CloseFirst st held left o b es → sink_calls number es ≡ []
 first_silent number (closed r es other c) = closing_silent number c
 first_silent number (closed_full begin es c) = then_begin_silent number es begin (closing_silent number c)
 
-again_silent : (number : ℕ) {st : Step} {n : ℕ} {ok : Bool} {held left : Totals} {o b : Option Reply} {es : List Event} → CloseAgain st n ok held left o b es → sink_calls number es ≡ []
+again_silent : (number : ℕ) {st : Step} {n : ℕ} {ok : Bool} {held left : Totals} {o b : Option Reply} {es : List CallEvent} → CloseAgain st n ok held left o b es → sink_calls number es ≡ []
 again_silent number (closed_again end r es other c) = closing_silent number c
-again_silent number (full_at_once end es none c) = closing_silent number c
+again_silent number (full_none_queued end es none c) = closing_silent number c
 again_silent number (full_again end begin es some c) = then_begin_silent number es begin (closing_silent number c)
 
 -- All further holds.
@@ -208,17 +208,17 @@ takes_workers : StepsKeepTheDomain → (s : State) (st : Step) (r : Reply) (t : 
 unfolding Takes
 takes_workers kept s st r t h = ap (λ (u : State). u.workers) h.2 ∙ (kept s st h.0).1
 
-leads_workers : StepsKeepTheDomain → (s t : State) (es : List Event) → Leads s es t → t.workers ≡ s.workers
+leads_workers : StepsKeepTheDomain → (s t : State) (es : List CallEvent) → Leads s es t → t.workers ≡ s.workers
 leads_workers kept s t [] l = ap (λ (u : State). u.workers) l
 leads_workers kept s t (Ran st r ∷ es) l = leads_workers kept l.0 t es l.2 ∙ takes_workers kept s st r l.0 l.1
 leads_workers kept s t (NotRun st held ∷ es) l = leads_workers kept s t es l.1
 leads_workers kept s t (Invalidated n ok ∷ es) l = leads_workers kept s t es l
 
-draining_silent : (number : ℕ) {by : ℕ} {rings : List ℕ} {freed : ℕ} {es : List Event} → Draining by rings freed es → sink_calls number es ≡ []
+draining_silent : (number : ℕ) {by : ℕ} {rings : List ℕ} {freed : ℕ} {es : List CallEvent} → Draining by rings freed es → sink_calls number es ≡ []
 draining_silent number none_left = refl
 draining_silent number (drains q rings n more es d) = draining_silent number d
 
-drain_silent : (number : ℕ) {workers by : ℕ} {result : Result ℕ Refusal} {es : List Event} → DrainAll workers by result es → sink_calls number es ≡ []
+drain_silent : (number : ℕ) {workers by : ℕ} {result : Result ℕ Refusal} {es : List CallEvent} → DrainAll workers by result es → sink_calls number es ≡ []
 drain_silent number (drained freed es some d) = draining_silent number d
 drain_silent number (no_worker none) = refl
 

@@ -14,7 +14,7 @@ use Rattle.iova_sink.specs.Calls.{Invalidation, Call, good_calls}
 use Rattle.iova_keep.specs.declared.unmapped.Unmapped.{Unmapped}
 use Rattle.iova_keep.specs.declared.unmapped.Unmapped.TheVariants as unmapped
 use Rattle.iova_keep.specs.Views.{SeatState, WhereKnown, begun_of}
-use Rattle.iova_keep.specs.Events.{Event, Ran, Invalidated, sink_calls, Unmapping, run, not_run}
+use Rattle.iova_keep.specs.Events.{CallEvent, Ran, Invalidated, sink_calls, Unmapping, run, not_run}
 use Rattle.iova_keep.specs.Releases.{ReleaseFirst, no_flush, flush, ReleaseAgain, no_flush_again, flush_again, ReleaseLast, reached, not_reached, AfterQueued, stays, freed, not_freed, ReleaseRest, refused_again, queued_again, refused_first, queued_first, ring_was_full, ReleasesFirst, ReleasesAgain, ReleasesLast, DoesFollow, DoesReleaseRest, DoesRelease}
 use Rattle.iova_keep.proofs.Doing.{known_both, known_one, good_within}
 use Rattle.iova_keep.proofs.Endings.{leads_more, sink_calls-more}
@@ -29,31 +29,31 @@ good_then n ok old mid new domain before between now h told k =
 
 -- No hold calls the sink.
 
-silent : (number : ℕ) {st : Step} {held : Totals} {r : Reply} {es : List Event} → Unmapping st held r es → sink_calls number es ≡ []
+silent : (number : ℕ) {st : Step} {held : Totals} {r : Reply} {es : List CallEvent} → Unmapping st held r es → sink_calls number es ≡ []
 silent number (run r) = refl
 silent number not_run = refl
 
-then_begin : (number : ℕ) (es : List Event) (b : Reply) → sink_calls number es ≡ [] → sink_calls number (es ++ Ran step.Begin b ∷ []) ≡ []
+then_begin : (number : ℕ) (es : List CallEvent) (b : Reply) → sink_calls number es ≡ [] → sink_calls number (es ++ Ran step.Begin b ∷ []) ≡ []
 then_begin number es b e = sink_calls-more number es (Ran step.Begin b ∷ []) ∙ ap (λ cs. cs ++ []) e
 
-first_silent : (number : ℕ) {strict : Bool} {st : Step} {held : Totals} {o b : Option Reply} {es : List Event} → ReleaseFirst strict st held o b es → sink_calls number es ≡ []
+first_silent : (number : ℕ) {strict : Bool} {st : Step} {held : Totals} {o b : Option Reply} {es : List CallEvent} → ReleaseFirst strict st held o b es → sink_calls number es ≡ []
 first_silent number (no_flush r es none u) = silent number u
 first_silent number (flush r b es follows u) = then_begin number es b (silent number u)
 
-again_silent : (number : ℕ) {strict : Bool} {st : Step} {held : Totals} {n : ℕ} {ok : Bool} {o b : Option Reply} {es : List Event} → ReleaseAgain strict st held n ok o b es → sink_calls number es ≡ []
+again_silent : (number : ℕ) {strict : Bool} {st : Step} {held : Totals} {n : ℕ} {ok : Bool} {o b : Option Reply} {es : List CallEvent} → ReleaseAgain strict st held n ok o b es → sink_calls number es ≡ []
 again_silent number (no_flush_again end r es none u) = silent number u
 again_silent number (flush_again end r b es strictly u) = then_begin number es b (silent number u)
 
-last_silent : (number : ℕ) {w n : ℕ} {ok : Bool} {finish : ℕ} {result : Bool} {es : List Event} → ReleaseLast w n ok finish result es → sink_calls number es ≡ []
+last_silent : (number : ℕ) {w n : ℕ} {ok : Bool} {finish : ℕ} {result : Bool} {es : List CallEvent} → ReleaseLast w n ok finish result es → sink_calls number es ≡ []
 last_silent number (reached end m enough) = refl
 last_silent number (not_reached end m short) = refl
 
 -- what a hold that calls no sink leaves of a list of calls
-none_called : (number : ℕ) (calls : List Call) (es : List Event) → sink_calls number es ≡ [] → calls ≡ calls ++ sink_calls number es
+none_called : (number : ℕ) (calls : List Call) (es : List CallEvent) → sink_calls number es ≡ [] → calls ≡ calls ++ sink_calls number es
 none_called number calls es quiet = sym (ap (λ cs. calls ++ cs) quiet ∙ append-nil calls)
 
 -- a hold that calls no sink, and then others
-quiet_then : (number : ℕ) (es fs : List Event) → sink_calls number es ≡ [] → sink_calls number (es ++ fs) ≡ sink_calls number fs
+quiet_then : (number : ℕ) (es fs : List CallEvent) → sink_calls number es ≡ [] → sink_calls number (es ++ fs) ≡ sink_calls number fs
 quiet_then number es fs quiet = sink_calls-more number es fs ∙ ap (λ cs. cs ++ sink_calls number fs) quiet
 
 -- What follows a range that was queued.
@@ -177,7 +177,7 @@ known_release_queued a c e strict seat w id lo q o b u number before now is same
     (rw is at p) k (λ s m t x y. release_queued strict seat w id lo q b u number before now s m t same x y)
 
 -- a first hold that was refused, and in which a flush began, was at a full ring
-full_ring : {strict : Bool} {st : Step} {held : Totals} {o b : Option Reply} {es : List Event} (e : Refusal) (n : ℕ) → ReleaseFirst strict st held o b es → o ≡ Some (reply.Refused e)
+full_ring : {strict : Bool} {st : Step} {held : Totals} {o b : Option Reply} {es : List CallEvent} (e : Refusal) (n : ℕ) → ReleaseFirst strict st held o b es → o ≡ Some (reply.Refused e)
     → begun_of b ≡ Some n → o ≡ Some (reply.Refused refusal.RingFull)
 full_ring e n (no_flush r es none u) is begun = absurd cc
 full_ring e n (flush r b es (inl full) u) is begun = ap Some full

@@ -14,7 +14,7 @@ use Rattle.iova_sink.specs.Calls.{Call}
 use Rattle.iova_keep.specs.declared.ending.Ending.{Ending}
 use Rattle.iova_keep.specs.Steps.{Takes}
 use Rattle.iova_keep.specs.Views.{SeatState, reserved_or, opened_or, given_or, queued_or, left_of}
-use Rattle.iova_keep.specs.Events.{Event, sink_calls, Does, UnmapFirst, UnmapAgain, Unmap, Flush, CloseFirst, CloseAgain, CloseRest, EndClient, DrainAll, Timeout}
+use Rattle.iova_keep.specs.Events.{CallEvent, sink_calls, Does, UnmapFirst, UnmapAgain, Unmap, Flush, CloseFirst, CloseAgain, CloseRest, EndClient, DrainAll, Timeout}
 
 -- Calls of one hold.
 
@@ -75,7 +75,7 @@ Leaves id left s t = left ≡ left_of id t
 -- Calls of several holds, with the calls of the sink between them: the domain's number, and the
 -- sink's calls before and after.
 
-abbrev pub UnmapsWith : Step → Totals → Reply → ℕ → List Call → List Call → List Event → Type 0
+abbrev pub UnmapsWith : Step → Totals → Reply → ℕ → List Call → List Call → List CallEvent → Type 0
 UnmapsWith st held r number before now es =
     Unmap st held r es × (now ≡ before ++ sink_calls number es)
 
@@ -85,14 +85,14 @@ DoesUnmap seat id lo result number before now s t =
     Does (UnmapsWith (step.Unmap seat.worker id lo) seat.held (queued_or result) number before now)
     s t
 
-abbrev pub FlushesWith : Result ℕ Refusal → ℕ → List Call → List Call → List Event → Type 0
+abbrev pub FlushesWith : Result ℕ Refusal → ℕ → List Call → List Call → List CallEvent → Type 0
 FlushesWith result number before now es = Flush result es × (now ≡ before ++ sink_calls number es)
 
 abbrev pub DoesFlush : Result ℕ Refusal → ℕ → List Call → List Call → State → State → Type 0
 DoesFlush result number before now s t = Does (FlushesWith result number before now) s t
 
 abbrev pub RestWith : SeatState → Totals → ℕ → ℕ → Bool → Option Reply → Option Reply → ℕ
-    → List Call → List Call → List Event → Type 0
+    → List Call → List Call → List CallEvent → Type 0
 RestWith seat left id n ok o begun number before now es =
     CloseRest (step.CloseOne seat.worker id) n seat.held left ok o begun es
     × (now ≡ before ++ sink_calls number es)
@@ -103,7 +103,7 @@ DoesRest seat left id n ok o begun number before now s t =
     Does (RestWith seat left id n ok o begun number before now) s t
 
 abbrev pub EndsWith : SeatState → Totals → ℕ → ℕ → Result Ending Refusal → ℕ → List Call → List Call
-    → List Event → Type 0
+    → List CallEvent → Type 0
 EndsWith seat left id remains result number before now es =
     EndClient (step.CloseOne seat.worker id) seat.held left remains result es
     × (now ≡ before ++ sink_calls number es)
@@ -113,7 +113,8 @@ abbrev pub DoesEndClient : SeatState → Totals → ℕ → Result Ending Refusa
 DoesEndClient seat left id result number before now s t =
     Does (EndsWith seat left id (left_of id t) result number before now) s t
 
-abbrev pub TimesOutWith : ℕ → ℕ → Result ℕ Refusal → ℕ → List Call → List Call → List Event → Type 0
+abbrev pub TimesOutWith : ℕ → ℕ → Result ℕ Refusal → ℕ → List Call → List Call → List CallEvent
+    → Type 0
 TimesOutWith workers queued result number before now es =
     Timeout workers queued result es × (now ≡ before ++ sink_calls number es)
 

@@ -14,7 +14,7 @@ use Rattle.iova_keep.specs.declared.ask.Told.{Told}
 use Rattle.iova_keep.specs.declared.ask.Told.TheVariants as told
 use Rattle.iova_keep.specs.Steps.{Takes}
 use Rattle.iova_keep.specs.Views.{SeatState, IsAllocRefusal, IsUnmapRefusal, stat_of}
-use Rattle.iova_keep.specs.Events.{Event, Ran, Does, Unmapping}
+use Rattle.iova_keep.specs.Events.{CallEvent, Ran, Does, Unmapping}
 
 -- what an ask may be answered: a request is given a range of its own, or refused; what is freed
 -- begins where it was asked, and where the ring is full there is no answer
@@ -140,7 +140,7 @@ DoesBatch strict seat left id asks before now result s t =
 -- One ask of a client of worker w, whose seat has `held`: this is run for it, where it is answered
 -- so.
 -- For the domain in numbers no step is run.
-abbrev pub AskRuns : ℕ → ℕ → Ask → Told → Totals → List Event → Type 0
+abbrev pub AskRuns : ℕ → ℕ → Ask → Told → Totals → List CallEvent → Type 0
 AskRuns w id (ask.Alloc frames limit) x held es =
     (r : Reply) × IsReplyTold r x × (es ≡ Ran (step.Alloc w id frames limit) r ∷ [])
 AskRuns w id (ask.Free lo) x held es =
@@ -149,7 +149,7 @@ AskRuns w id (ask.Free lo) x held es =
 AskRuns w id ask.Stat x held es = es ≡ []
 
 -- what is run where a batch stops: the free whose ring is full, if any ask is left
-abbrev pub StopRuns : ℕ → ℕ → List Ask → Totals → List Event → Type 0
+abbrev pub StopRuns : ℕ → ℕ → List Ask → Totals → List CallEvent → Type 0
 StopRuns w id [] held es = es ≡ []
 StopRuns w id (ask.Free lo ∷ asks) held es =
     Unmapping (step.Unmap w id lo) held (reply.Refused refusal.RingFull) es
@@ -157,17 +157,17 @@ StopRuns w id (ask.Alloc frames limit ∷ asks) held es = ⊥
 StopRuns w id (ask.Stat ∷ asks) held es = ⊥
 
 -- This is run for the asks, in order, where they have these answers.
-pub data AsksRun (w id : ℕ) : List Ask → List Told → Totals → Totals → List Event → Type 0 where
-  stopped : (asks : List Ask) (held : Totals) (es : List Event) → StopRuns w id asks held es
+pub data AsksRun (w id : ℕ) : List Ask → List Told → Totals → Totals → List CallEvent → Type 0 where
+  stopped : (asks : List Ask) (held : Totals) (es : List CallEvent) → StopRuns w id asks held es
       → AsksRun w id asks [] held held es
   asked : (a : Ask) (asks : List Ask) (x : Told) (xs : List Told) (held now left : Totals)
-      (es fs : List Event)
+      (es fs : List CallEvent)
       → AskRuns w id a x held es → MovesTold x held now → AsksRun w id asks xs now left fs
       → AsksRun w id (a ∷ asks) (x ∷ xs) held left (es ++ fs)
 
 -- One ask is done, for which this is run, and its answer appended.
 pub record OneRuns (w id : ℕ) (a : Ask) (before now : List Told) (held left : Totals)
-    (es : List Event)
+    (es : List CallEvent)
     : Type 0 where
   pub told : Told
   pub appended : now ≡ before ++ told ∷ []
@@ -176,7 +176,7 @@ pub record OneRuns (w id : ℕ) (a : Ask) (before now : List Told) (held left : 
 
 -- this is run where so many asks were done, and their answers appended
 pub record BatchedRuns (w id : ℕ) (asks : List Ask) (before now : List Told) (count : ℕ)
-    (held left : Totals) (es : List Event)
+    (held left : Totals) (es : List CallEvent)
     : Type 0 where
   pub more : List Told
   pub appended : now ≡ before ++ more
@@ -185,7 +185,7 @@ pub record BatchedRuns (w id : ℕ) (asks : List Ask) (before now : List Told) (
 
 -- a batch that is refused runs nothing
 abbrev pub BatchRuns : Bool → SeatState → Totals → ℕ → List Ask → List Told → List Told
-    → Result ℕ Refusal → List Event
+    → Result ℕ Refusal → List CallEvent
     → Type 0
 BatchRuns strict seat left id asks before now result es =
     MatchResult result (λ count. BatchedRuns seat.worker id (may_do strict asks) before now count

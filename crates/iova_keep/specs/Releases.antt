@@ -13,7 +13,7 @@ use Rattle.iova_sink.specs.Calls.{Call}
 use Rattle.iova_keep.specs.declared.unmapped.Unmapped.{Unmapped}
 use Rattle.iova_keep.specs.declared.unmapped.Unmapped.TheVariants as unmapped
 use Rattle.iova_keep.specs.Views.{SeatState, begun_of}
-use Rattle.iova_keep.specs.Events.{Event, Ran, Invalidated, Does, Unmapping, sink_calls}
+use Rattle.iova_keep.specs.Events.{CallEvent, Ran, Invalidated, Does, Unmapping, sink_calls}
 
 -- a range was queued in a strict domain
 abbrev pub QueuedStrictly : Bool → Reply → Type 0
@@ -25,22 +25,23 @@ FlushFollows strict r = (r ≡ reply.Refused refusal.RingFull) ⊎ QueuedStrictl
 
 -- The first hold of a release: an unmap, and where a flush is to follow, that one begins.
 pub data ReleaseFirst (strict : Bool) (st : Step) (held : Totals) : Option Reply → Option Reply
-    → List Event
+    → List CallEvent
     → Type 0 where
-  no_flush : (r : Reply) (es : List Event) → (FlushFollows strict r → ⊥) → Unmapping st held r es
+  no_flush : (r : Reply) (es : List CallEvent) → (FlushFollows strict r → ⊥)
+      → Unmapping st held r es
       → ReleaseFirst strict st held (Some r) None es
-  flush : (r b : Reply) (es : List Event) → FlushFollows strict r → Unmapping st held r es
+  flush : (r b : Reply) (es : List CallEvent) → FlushFollows strict r → Unmapping st held r es
       → ReleaseFirst strict st held (Some r) (Some b) (es ++ Ran step.Begin b ∷ [])
 
 -- The hold after a ring that was full: the flush ends, and the unmap is tried again; where that
 -- queued a range in a strict domain, a second flush begins.
 pub data ReleaseAgain (strict : Bool) (st : Step) (held : Totals) (n : ℕ) (ok : Bool) : Option Reply
     → Option Reply
-    → List Event → Type 0 where
-  no_flush_again : (end r : Reply) (es : List Event) → (QueuedStrictly strict r → ⊥)
+    → List CallEvent → Type 0 where
+  no_flush_again : (end r : Reply) (es : List CallEvent) → (QueuedStrictly strict r → ⊥)
       → Unmapping st held r es
       → ReleaseAgain strict st held n ok (Some r) None (Ran (step.End n ok) end ∷ es)
-  flush_again : (end r b : Reply) (es : List Event) → QueuedStrictly strict r
+  flush_again : (end r b : Reply) (es : List CallEvent) → QueuedStrictly strict r
       → Unmapping st held r es
       → ReleaseAgain strict st held n ok (Some r) (Some b)
       (Ran (step.End n ok) end ∷ (es ++ Ran step.Begin b ∷ []))
@@ -48,7 +49,7 @@ pub data ReleaseAgain (strict : Bool) (st : Step) (held : Totals) (n : ℕ) (ok 
 -- The last hold, of worker w: the flush that began after the range ends, and the worker's ring is
 -- drained. It answers whether the finish count that this leaves, which a drain doesn't move, is at
 -- least the flush's number.
-pub data ReleaseLast (w n : ℕ) (ok : Bool) (finish : ℕ) : Bool → List Event → Type 0 where
+pub data ReleaseLast (w n : ℕ) (ok : Bool) (finish : ℕ) : Bool → List CallEvent → Type 0 where
   reached : (end : Reply) (m : ℕ) → n ≤ finish
       → ReleaseLast w n ok finish true (Ran (step.End n ok) end ∷ Ran (step.Drain w w)
       (reply.Drained m) ∷ [])
@@ -58,37 +59,39 @@ pub data ReleaseLast (w n : ℕ) (ok : Bool) (finish : ℕ) : Bool → List Even
 
 -- What follows a range that was queued: nothing where no flush began; else the sink is called
 -- for that flush, and the last hold.
-pub data AfterQueued (w finish : ℕ) (q : Frames) : Option ℕ → Unmapped → List Event → Type 0 where
+pub data AfterQueued (w finish : ℕ) (q : Frames) : Option ℕ → Unmapped → List CallEvent
+    → Type 0 where
   stays : AfterQueued w finish q None (unmapped.Queued q) []
-  freed : (n : ℕ) (ok : Bool) (es : List Event) → ReleaseLast w n ok finish true es
+  freed : (n : ℕ) (ok : Bool) (es : List CallEvent) → ReleaseLast w n ok finish true es
       → AfterQueued w finish q (Some n) (unmapped.Freed q) (Invalidated n ok ∷ es)
-  not_freed : (n : ℕ) (ok : Bool) (es : List Event) → ReleaseLast w n ok finish false es
+  not_freed : (n : ℕ) (ok : Bool) (es : List CallEvent) → ReleaseLast w n ok finish false es
       → AfterQueued w finish q (Some n) (unmapped.Queued q) (Invalidated n ok ∷ es)
 
 -- What follows a ring that was full, from the call of the sink for flush n on: the second hold, and
 -- what follows that.
 pub data ReleaseRest (strict : Bool) (st : Step) (held : Totals) (w finish n : ℕ) : Result Unmapped
-    Refusal → List Event
+    Refusal → List CallEvent
     → Type 0 where
-  refused_again : (ok : Bool) (e : Refusal) (b : Option Reply) (es : List Event)
+  refused_again : (ok : Bool) (e : Refusal) (b : Option Reply) (es : List CallEvent)
       → ReleaseAgain strict st held n ok (Some (reply.Refused e)) b es
       → ReleaseRest strict st held w finish n (Err e) (Invalidated n ok ∷ es)
-  queued_again : (ok : Bool) (q : Frames) (b : Option Reply) (u : Unmapped) (es fs : List Event)
+  queued_again : (ok : Bool) (q : Frames) (b : Option Reply) (u : Unmapped) (es fs : List CallEvent)
       → ReleaseAgain strict st held n ok (Some (reply.Queued q)) b es
       → AfterQueued w finish q (begun_of b) u fs
       → ReleaseRest strict st held w finish n (Ok u) (Invalidated n ok ∷ (es ++ fs))
 
 -- A release at a seat of worker w, which leaves this finish count.
 pub data Release (strict : Bool) (st : Step) (held : Totals) (w finish : ℕ) : Result Unmapped
-    Refusal → List Event
+    Refusal → List CallEvent
     → Type 0 where
-  refused_first : (e : Refusal) (b : Option Reply) (es : List Event)
+  refused_first : (e : Refusal) (b : Option Reply) (es : List CallEvent)
       → ReleaseFirst strict st held (Some (reply.Refused e)) b es
       → begun_of b ≡ None → Release strict st held w finish (Err e) es
-  queued_first : (q : Frames) (b : Option Reply) (u : Unmapped) (es fs : List Event)
+  queued_first : (q : Frames) (b : Option Reply) (u : Unmapped) (es fs : List CallEvent)
       → ReleaseFirst strict st held (Some (reply.Queued q)) b es
       → AfterQueued w finish q (begun_of b) u fs → Release strict st held w finish (Ok u) (es ++ fs)
-  ring_was_full : (n : ℕ) (b : Option Reply) (result : Result Unmapped Refusal) (es fs : List Event)
+  ring_was_full : (n : ℕ) (b : Option Reply) (result : Result Unmapped Refusal)
+      (es fs : List CallEvent)
       → ReleaseFirst strict st held (Some (reply.Refused refusal.RingFull)) b es
       → begun_of b ≡ Some n
       → ReleaseRest strict st held w finish n result fs
@@ -113,7 +116,7 @@ ReleasesLast seat n ok result s t = Does (ReleaseLast seat.worker n ok t.flushes
 -- before and after.
 
 abbrev pub FollowsWith : ℕ → ℕ → Frames → Option ℕ → Unmapped → ℕ → List Call → List Call
-    → List Event → Type 0
+    → List CallEvent → Type 0
 FollowsWith w finish q o u number before now es =
     AfterQueued w finish q o u es × (now ≡ before ++ sink_calls number es)
 
@@ -124,7 +127,7 @@ DoesFollow w q o u number before now s t =
 
 abbrev pub ReleaseRestWith : Bool → SeatState → ℕ → ℕ → ℕ → ℕ → Result Unmapped Refusal → ℕ
     → List Call → List Call
-    → List Event → Type 0
+    → List CallEvent → Type 0
 ReleaseRestWith strict seat id lo finish n result number before now es =
     ReleaseRest strict (step.Unmap seat.worker id lo) seat.held seat.worker finish n result es
     × (now ≡ before ++ sink_calls number es)
@@ -137,7 +140,7 @@ DoesReleaseRest strict seat id lo n result number before now s t =
 
 abbrev pub ReleasesWith : Bool → SeatState → ℕ → ℕ → ℕ → Result Unmapped Refusal → ℕ → List Call
     → List Call
-    → List Event → Type 0
+    → List CallEvent → Type 0
 ReleasesWith strict seat id lo finish result number before now es =
     Release strict (step.Unmap seat.worker id lo) seat.held seat.worker finish result es
     × (now ≡ before ++ sink_calls number es)

@@ -86,9 +86,9 @@ impl<'a, R> Drop for ServedLink<'a, R> {
 }
 
 impl<'a, R> Model for ServedLink<'a, R> {
-    ghost use Rattle.iova_session.specs.Links.{Counted};
+    ghost use Rattle.iova_session.specs.Links.{LinkCounts};
 
-    ghost Value = { Counted };
+    ghost Value = { LinkCounts };
 
     ghost view = { λ l. record { reads = l.reads; failures = l.failed; ends = l.ended } };
 }

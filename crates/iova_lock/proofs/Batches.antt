@@ -13,7 +13,7 @@ use Rattle.iova_keep.specs.declared.ask.Ask.{Ask}
 use Rattle.iova_keep.specs.declared.ask.Ask.TheVariants as ask
 use Rattle.iova_keep.specs.declared.ask.Told.{Told}
 use Rattle.iova_keep.specs.Batches.{ToldOfAsks, TellsAsks, MayStop, before_free, may_do, IsReplyTold, MovesTold, TellsReply, OneRuns, StopRuns, stopped, asked, BatchedRuns}
-use Rattle.iova_keep.specs.Events.{Event, Ran, Unmapping}
+use Rattle.iova_keep.specs.Events.{CallEvent, Ran, Unmapping}
 use Rattle.iova_keep.specs.Steps.{Takes}
 use Rattle.iova_keep.specs.StepLogs.{StepLog, StoresStep}
 use Rattle.iova_keep.specs.Stored.{DoesAndStores}
@@ -114,7 +114,7 @@ none_runs w id [] before held a s none = record {
 }
 none_runs w id (x ∷ asks) before held a s none = absurd (omega (arith, none))
 
-still_stops : (w id : ℕ) (x : Ask) (asks : List Ask) (held : Totals) (es : List Event) → StopRuns w id (x ∷ []) held es → StopRuns w id (x ∷ asks) held es
+still_stops : (w id : ℕ) (x : Ask) (asks : List Ask) (held : Totals) (es : List CallEvent) → StopRuns w id (x ∷ []) held es → StopRuns w id (x ∷ asks) held es
 still_stops w id (ask.Free lo) asks held es h = h
 still_stops w id (ask.Alloc frames limit) asks held es h = absurd h
 still_stops w id ask.Stat asks held es h = absurd h

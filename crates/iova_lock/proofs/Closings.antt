@@ -14,7 +14,7 @@ use Rattle.iova_model.specs.State.{State}
 use Rattle.iova_model.specs.Effects.{add_totals, MovesTotals, IsReplyTo}
 use Rattle.iova_keep.specs.Steps.{Takes}
 use Rattle.iova_keep.specs.Views.{IsLowered, IsCloseHeard}
-use Rattle.iova_keep.specs.Events.{Event, Ran, Leads, Unmapping, run, not_run, Closing, stops, queues}
+use Rattle.iova_keep.specs.Events.{CallEvent, Ran, Leads, Unmapping, run, not_run, Closing, stops, queues}
 use Rattle.iova_keep.specs.StepLogs.{StepLog, StoresStep}
 use Rattle.iova_keep.specs.Stored.{StoresEvents, DoesAndStores}
 use Rattle.iova_lock.proofs.Storing.{step_stored}
@@ -47,7 +47,7 @@ pub none_yet : (st : Step) (held : Totals) (a : Option StepLog) (s : State) → 
 none_yet st held a s = record { ranges = []; shares = none_more held; goes_on = λ left r c u d. d }
 
 -- one range in front of a run
-in_front : (st : Step) (held mid left : Totals) (q : Frames) (r : Reply) (a b c : Option StepLog) (s m u : State) {o : Reply} {es : List Event} → Unmapping st held o es → o ≡ reply.Queued q → Leads s es m
+in_front : (st : Step) (held mid left : Totals) (q : Frames) (r : Reply) (a b c : Option StepLog) (s m u : State) {o : Reply} {es : List CallEvent} → Unmapping st held o es → o ≡ reply.Queued q → Leads s es m
     → StoresEvents a es b → held ≡ add_totals mid (totals_of (q ∷ [])) → DoesAndStores (Closing st mid left r) b c m u → DoesAndStores (Closing st held left r) a c s u
 in_front st held mid left q r a b c s m u (run o) e l stored moved d =
     let here : Takes s st (reply.Queued q) m = subst (λ x. Takes s st x m) e (subst (λ x. Takes s st o x) (sym l.2) l.1) in

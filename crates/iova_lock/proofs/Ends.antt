@@ -9,7 +9,7 @@ use Rattle.iova_model.specs.declared.step.Reply.TheVariants as reply
 use Rattle.iova_model.specs.declared.totals.Totals.{Totals}
 use Rattle.iova_model.specs.State.{State}
 use Rattle.iova_keep.specs.Steps.{Takes}
-use Rattle.iova_keep.specs.Events.{Ran, Closing, CloseFirst, closed, closed_full, CloseAgain, closed_again, full_at_once, full_again, Draining, rings_from, DrainAll, drained, no_worker}
+use Rattle.iova_keep.specs.Events.{Ran, Closing, CloseFirst, closed, closed_full, CloseAgain, closed_again, full_none_queued, full_again, Draining, rings_from, DrainAll, drained, no_worker}
 use Rattle.iova_keep.specs.StepLogs.{StepLog, StoresStep}
 use Rattle.iova_keep.specs.Stored.{DoesAndStores}
 use Rattle.iova_lock.proofs.Storing.{leads_more, stores_more}
@@ -47,7 +47,7 @@ again_none_queued st n ok held left end r a b c s m t h k e none d =
     let closes : Closing st held left (reply.Refused refusal.RingFull) d.events = subst (λ x. Closing st held left x d.events) e d.allowed in
     let does : DoesAndStores (CloseAgain st n ok held left (Some (reply.Refused refusal.RingFull)) None) a c s t = record {
       events = Ran (step.End n ok) end ∷ d.events;
-      allowed = full_at_once end d.events none closes;
+      allowed = full_none_queued end d.events none closes;
       leads = (m, h, d.leads);
       stored = (b, k, d.stored);
     } in

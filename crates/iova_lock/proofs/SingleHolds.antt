@@ -9,7 +9,7 @@ use Rattle.iova_model.specs.declared.totals.Totals.{Totals}
 use Rattle.iova_model.specs.State.{State}
 use Rattle.iova_model.specs.Effects.{to_queue}
 use Rattle.iova_keep.specs.Steps.{Takes}
-use Rattle.iova_keep.specs.Events.{Event, Ran, NotRun, IsShort, Leads, Unmapping, run, not_run, UnmapFirst, tried, full, UnmapAgain, again}
+use Rattle.iova_keep.specs.Events.{CallEvent, Ran, NotRun, IsShort, Leads, Unmapping, run, not_run, UnmapFirst, tried, full, UnmapAgain, again}
 use Rattle.iova_keep.specs.StepLogs.{StepLog, StoresStep}
 use Rattle.iova_keep.specs.Stored.{StoresEvents, DoesAndStores}
 use Rattle.iova_lock.proofs.Storing.{step_stored}
@@ -24,7 +24,7 @@ pub first_tried : (st : Step) (held : Totals) (r : Reply) (a b : Option StepLog)
     → DoesAndStores (UnmapFirst st held (Some r) None) a b s t
 first_tried st held r a b s t other d = record { events = d.events; allowed = tried r d.events other d.allowed; leads = d.leads; stored = d.stored }
 
-full_then : (st : Step) (held : Totals) (a b c : Option StepLog) (s m t : State) (begin : Reply) {r : Reply} {es : List Event} → Unmapping st held r es → r ≡ reply.Refused refusal.RingFull → Leads s es m
+full_then : (st : Step) (held : Totals) (a b c : Option StepLog) (s m t : State) (begin : Reply) {r : Reply} {es : List CallEvent} → Unmapping st held r es → r ≡ reply.Refused refusal.RingFull → Leads s es m
     → StoresEvents a es b → Takes m step.Begin begin t → StoresStep b step.Begin begin c
     → DoesAndStores (UnmapFirst st held (Some (reply.Refused refusal.RingFull)) (Some begin)) a c s t
 full_then st held a b c s m t begin (run r) e l stored h k =

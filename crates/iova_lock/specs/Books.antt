@@ -12,7 +12,7 @@ use Rattle.iova_model.specs.State.{State, new_domain}
 use Rattle.iova_model.specs.Valid.{Rises}
 use Rattle.iova_clients.specs.Orders.{AppendsInAnyOrder}
 use Rattle.iova_keep.specs.Views.{SeatState, TallyState, IsKept}
-use Rattle.iova_keep.specs.Events.{Event}
+use Rattle.iova_keep.specs.Events.{CallEvent}
 use Rattle.iova_keep.specs.StepLogs.{StepLog, IsRecorded}
 use Rattle.iova_keep.specs.Stored.{DoesAndStores}
 
@@ -36,7 +36,7 @@ pub record SharedState : Type 0 where
   pub begun : BookState
 
 -- what a call does to the domain of the book and stores in its log, of what is allowed of it
-abbrev pub DoesInBook : (List Event → Type 0) → BookState → BookState → Type 0
+abbrev pub DoesInBook : (List CallEvent → Type 0) → BookState → BookState → Type 0
 DoesInBook Allowed old new = DoesAndStores Allowed old.log new.log old.state new.state
 
 -- how many steps are recorded

@@ -25,7 +25,7 @@ use iova_range::limits::{MAX_ENTRIES, MAX_WORKERS, SEAT_PARTS, TALLY_PARTS};
 use iova_range::range::Range;
 use iova_range::refusal::Refusal;
 use iova_range::stat::Stat;
-use iova_record::recorded_domain::{RecordedDomain, Stored};
+use iova_record::recorded_domain::{RecordedDomain, StoredStep};
 use iova_report::report;
 use std::alloc::Global;
 use std::marker::Model;
@@ -261,7 +261,7 @@ impl<B: Names> Book<B> {
     }
 
     /// The pairs that were recorded.
-    pub fn pairs(&self) -> Option<&[Stored]>
+    pub fn pairs(&self) -> Option<&[StoredStep]>
         ensures is { option_copied result ≡ option_map (λ t. t.pairs) self.now.log }
         ensures recorded { IsRecorded self.now.log self.now.state }
     {

@@ -3,7 +3,7 @@ use Rattle.std.proofs.Common.{◌≡◌, ◌≤◌, Bool, true, false, List, [],
 use Rattle.iova_model.specs.declared.step.Step.{Step}
 use Rattle.iova_model.specs.declared.step.Reply.{Reply}
 use Rattle.iova_model.specs.State.{State}
-use Rattle.iova_keep.specs.Events.{Event, Ran, NotRun, Invalidated}
+use Rattle.iova_keep.specs.Events.{CallEvent, Ran, NotRun, Invalidated}
 use Rattle.iova_keep.specs.StepLogs.{StepLog, StoresStep, LogGoesOn, GoesOn, unrecorded, recorded}
 use Rattle.iova_keep.specs.Stored.{StoresEvents, RecordsCall}
 use Rattle.iova_record.proofs.StepLogs.{stores_goes_on}
@@ -40,13 +40,13 @@ goes_on_further (recorded x y h) k = recorded_further x y h k
 pub step_goes_on : (old new : Option StepLog) (st : Step) (r : Reply) → StoresStep old st r new → GoesOn old new
 step_goes_on old new st r h = stores_goes_on old new (record { step = st; point = h.0; reply = r }) h.1
 
-pub events_go_on : (old new : Option StepLog) (es : List Event) → StoresEvents old es new → GoesOn old new
+pub events_go_on : (old new : Option StepLog) (es : List CallEvent) → StoresEvents old es new → GoesOn old new
 events_go_on old new [] h = subst (λ o. GoesOn old o) (sym h) (unchanged_goes_on old)
 events_go_on old new (Ran st r ∷ es) h = goes_on_further (step_goes_on old h.0 st r h.1) (events_go_on h.0 new es h.2)
 events_go_on old new (NotRun st held ∷ es) h = events_go_on old new es h
 events_go_on old new (Invalidated n ok ∷ es) h = events_go_on old new es h
 
-pub call_goes_on : (before after : Option State) (old new : Option StepLog) (Allowed : State → State → List Event → Type 0) → RecordsCall before after old new Allowed → GoesOn old new
+pub call_goes_on : (before after : Option State) (old new : Option StepLog) (Allowed : State → State → List CallEvent → Type 0) → RecordsCall before after old new Allowed → GoesOn old new
 call_goes_on None after old new Allowed h = subst (λ o. GoesOn o new) (sym h.0) (subst (λ o. GoesOn None o) (sym h.1) unrecorded)
 call_goes_on (Some s) None old new Allowed h = absurd h
 call_goes_on (Some s) (Some t) old new Allowed h = events_go_on old new h.events h.stored

@@ -3,7 +3,7 @@ ghost use Rattle.std.specs.Prelude.{◌≡◌, ℕ, List, ◌++◌, Err, IfOk, O
 ghost use Rattle.iova_line.specs.Recorded.{steps_text, AreSteps};
 ghost use Rattle.iova_record.specs.Records.{WritesLog, WritesText};
 
-use crate::recorded_domain::{RecordedDomain, Stored};
+use crate::recorded_domain::{RecordedDomain, StoredStep};
 use iova_line::line::{write_header, write_step};
 use iova_range::refusal::Refusal;
 
@@ -53,7 +53,7 @@ impl RecordedDomain {
 }
 
 /// Appends a line for each step.
-fn write_steps(pairs: &[Stored], out: &mut Vec<u8>) -> Result<(), Refusal>
+fn write_steps(pairs: &[StoredStep], out: &mut Vec<u8>) -> Result<(), Refusal>
     ensures ok { OnOk result (out.new.items ≡ out.old.items ++ steps_text pairs.now) }
     ensures steps { OnOk result (AreSteps pairs.now) }
     ensures err { OnErr result ((result ≡ Err Refusal.NoMemory)

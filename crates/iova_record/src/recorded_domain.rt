@@ -32,13 +32,13 @@ use std::marker::Model;
 
 /// A step, the growth in it that was refused, and its reply.
 #[derive(Clone, Copy, Debug)]
-pub struct Stored {
+pub struct StoredStep {
     pub step: Step,
     pub point: Point,
     pub reply: Reply,
 }
 
-impl Model for Stored {
+impl Model for StoredStep {
     ghost use Rattle.iova_model.specs.Transcript.{Pair};
 
     ghost Value = { Pair };
@@ -53,7 +53,7 @@ impl Model for Stored {
 /// What is recorded. All its room is taken when it is made.
 pub struct Recording {
     recording: bool,
-    pairs: Vec<Stored>,
+    pairs: Vec<StoredStep>,
 }
 
 /// Drops its parts. The proof stands here, once for all crates above.
@@ -326,7 +326,7 @@ impl RecordedDomain {
     }
 
     /// The pairs that were recorded.
-    pub fn pairs(&self) -> Option<&[Stored]>
+    pub fn pairs(&self) -> Option<&[StoredStep]>
         ensures is { option_copied result ≡ option_map (λ t. t.pairs) self.now.log }
         ensures recorded { IsRecorded self.now.log self.now.state }
     {
@@ -364,7 +364,7 @@ impl Recording {
             self.new }
     {
         if self.recording && self.pairs.len() < self.pairs.capacity() {
-            self.pairs.push_reserved(Stored { step, point, reply });
+            self.pairs.push_reserved(StoredStep { step, point, reply });
         } else {
             self.recording = false;
         }

@@ -24,7 +24,7 @@ use Rattle.iova_keep.specs.declared.ending.Ending.TheVariants as ending
 use Rattle.iova_keep.specs.Steps.{Takes}
 use Rattle.iova_keep.specs.Views.{IsUnknown}
 use Rattle.iova_session.specs.Leaving.{still_waits}
-use Rattle.iova_keep.specs.Events.{Event, Ran, NotRun, Invalidated, Leads, run, not_run, Closing, stops, queues, CloseFirst, closed, closed_full, CloseAgain, closed_again, full_at_once, full_again, CloseRest, last, another, Answered, ended, unknown, gone, EndClient, in_one_hold, in_more}
+use Rattle.iova_keep.specs.Events.{CallEvent, Ran, NotRun, Invalidated, Leads, run, not_run, Closing, stops, queues, CloseFirst, closed, closed_full, CloseAgain, closed_again, full_none_queued, full_again, CloseRest, last, another, Answered, ended, unknown, gone, EndClient, in_one_hold, in_more}
 
 -- what is at most the lower bound is no client's serial
 none_below : (id low : ℕ) (clients : List Client) (top : ℕ) → SerialsRise low clients top → id ≤ low → client_with id clients ≡ None
@@ -117,7 +117,7 @@ end_there s w id n ok r t h there =
 
 -- Holds.
 
-pub leads_split : (es fs : List Event) (s t : State) → Leads s (es ++ fs) t → (mid : State) × Leads s es mid × Leads mid fs t
+pub leads_split : (es fs : List CallEvent) (s t : State) → Leads s (es ++ fs) t → (mid : State) × Leads s es mid × Leads mid fs t
 leads_split [] fs s t l = (s, refl, l)
 leads_split (Ran st r ∷ es) fs s t l = let h = leads_split es fs l.0 t l.2 in (h.0, (l.0, l.1, h.1), h.2)
 leads_split (NotRun st held ∷ es) fs s t l = let h = leads_split es fs s t l.1 in (h.0, (l.0, h.1), h.2)
@@ -136,7 +136,7 @@ pub some_reply : {a b : Reply} → Some a ≡ Some b → a ≡ b
 some_reply e = cc
 
 module _ (law : StepsKeepValidity) (w id : ℕ) where
-  closing_hears : {held left : Totals} {r : Reply} {es : List Event} (s t : State) → Closing (step.CloseOne w id) held left r es → IsValid s → Leads s es t → Hears w id s (Some r) held left t
+  closing_hears : {held left : Totals} {r : Reply} {es : List CallEvent} (s t : State) → Closing (step.CloseOne w id) held left r es → IsValid s → Leads s es t → Hears w id s (Some r) held left t
   closing_hears s t (stops held left r es even other (run q)) valid l =
       let there : (q : Reply) → r ≡ q → Says w id s q l.0 = λ q e. subst (λ (x : Reply). Says w id s x l.0) e (takes_says s w id r l.0 valid l.1) in
       let now = takes_valid law s (step.CloseOne w id) r l.0 valid l.1 in
@@ -169,7 +169,7 @@ module _ (law : StepsKeepValidity) (w id : ℕ) where
       }
 
   -- closings, and then a flush begins
-  begun_hears : {held left : Totals} {es : List Event} (s t : State) (begin : Reply) → Closing (step.CloseOne w id) held left (reply.Refused refusal.RingFull) es → IsValid s → Leads s (es ++ Ran step.Begin begin ∷ []) t
+  begun_hears : {held left : Totals} {es : List CallEvent} (s t : State) (begin : Reply) → Closing (step.CloseOne w id) held left (reply.Refused refusal.RingFull) es → IsValid s → Leads s (es ++ Ran step.Begin begin ∷ []) t
       → Hears w id s (Some (reply.Refused refusal.RingFull)) held left t
   begun_hears {held = held} {left = left} {es = es} s t begin k valid l =
       let h = leads_split es (Ran step.Begin begin ∷ []) s t l in
@@ -183,7 +183,7 @@ module _ (law : StepsKeepValidity) (w id : ℕ) where
         known = before.known;
       })
 
-  first_hears : {held left : Totals} {o b : Option Reply} {es : List Event} (s t : State) → CloseFirst (step.CloseOne w id) held left o b es → IsValid s → Leads s es t → Hears w id s o held left t
+  first_hears : {held left : Totals} {o b : Option Reply} {es : List CallEvent} (s t : State) → CloseFirst (step.CloseOne w id) held left o b es → IsValid s → Leads s es t → Hears w id s o held left t
   first_hears s t (closed r es other k) valid l = closing_hears s t k valid l
   first_hears s t (closed_full begin es k) valid l = begun_hears s t begin k valid l
 
@@ -198,10 +198,10 @@ module _ (law : StepsKeepValidity) (w id : ℕ) where
     known = λ was e u is. rest.known (end_there s w id n ok end m h was) e u is;
   }
 
-  again_hears : {held left : Totals} {n : ℕ} {ok : Bool} {o b : Option Reply} {es : List Event} (s t : State) → CloseAgain (step.CloseOne w id) n ok held left o b es → IsValid s → Leads s es t → Hears w id s o held left t
+  again_hears : {held left : Totals} {n : ℕ} {ok : Bool} {o b : Option Reply} {es : List CallEvent} (s t : State) → CloseAgain (step.CloseOne w id) n ok held left o b es → IsValid s → Leads s es t → Hears w id s o held left t
   again_hears {n = n} {ok = ok} s t (closed_again end r es other k) valid l =
       ended_hears n ok end s l.0 t l.1 (closing_hears l.0 t k (takes_valid law s (step.End n ok) end l.0 valid l.1) l.2)
-  again_hears {n = n} {ok = ok} s t (full_at_once end es even k) valid l =
+  again_hears {n = n} {ok = ok} s t (full_none_queued end es even k) valid l =
       ended_hears n ok end s l.0 t l.1 (closing_hears l.0 t k (takes_valid law s (step.End n ok) end l.0 valid l.1) l.2)
   again_hears {n = n} {ok = ok} s t (full_again end begin es less k) valid l =
       ended_hears n ok end s l.0 t l.1 (begun_hears l.0 t begin k (takes_valid law s (step.End n ok) end l.0 valid l.1) l.2)
@@ -212,7 +212,7 @@ module _ (law : StepsKeepValidity) (w id : ℕ) where
     unknown : o ≡ Some (reply.Refused refusal.NoClient) → client_of w id t.clients ≡ None
     known : (e : Refusal) → IsUnknown e → o ≡ Some (reply.Refused e) → ⊥
 
-  rest_hears : {n : ℕ} {held left : Totals} {ok : Bool} {o b : Option Reply} {es : List Event} (s t : State) → CloseRest (step.CloseOne w id) n held left ok o b es → IsValid s → IsThere w id s → Leads s es t → Rests o t
+  rest_hears : {n : ℕ} {held left : Totals} {ok : Bool} {o b : Option Reply} {es : List CallEvent} (s t : State) → CloseRest (step.CloseOne w id) n held left ok o b es → IsValid s → IsThere w id s → Leads s es t → Rests o t
   rest_hears s t (last n ok held left o b es k) valid there l = let h = again_hears s t k valid l in record { gone = h.gone; unknown = h.unknown; known = h.known there }
   rest_hears s t (another n m ok well held mid left o b es fs a c) valid there l =
       let split = leads_split es fs s t l in
@@ -229,7 +229,7 @@ module _ (law : StepsKeepValidity) (w id : ℕ) where
   more_than_none : {held left : Totals} (queued : ℕ) → held.count ≡ left.count + queued → 1 ≤ queued → left ≡ held → ⊥
   more_than_none queued sum some even = let c = ap (λ (x : Totals). x.count) even in omega (arith, sum, some, c)
 
-  pub ended_is_gone : {held left : Totals} {remains q : ℕ} {result : Result Ending Refusal} {es : List Event} (s t : State) → result ≡ Ok (ending.Ended q) → EndClient (step.CloseOne w id) held left remains result es
+  pub ended_is_gone : {held left : Totals} {remains q : ℕ} {result : Result Ending Refusal} {es : List CallEvent} (s t : State) → result ≡ Ok (ending.Ended q) → EndClient (step.CloseOne w id) held left remains result es
       → IsValid s → Leads s es t → client_with id t.clients ≡ None
   ended_is_gone s t is (in_one_hold queued o b result es sum c a) valid l =
       let h = first_hears s t c valid l in
@@ -246,7 +246,7 @@ module _ (law : StepsKeepValidity) (w id : ℕ) where
   answered_unknown x e (unknown y known none) = ap (λ (z : Refusal). Some (reply.Refused z)) known
   answered_unknown x e a = absurd cc
 
-  end_unknown : {held left : Totals} {remains : ℕ} {result : Result Ending Refusal} {es : List Event} (x : Refusal) (s t : State) → result ≡ Err x → EndClient (step.CloseOne w id) held left remains result es → IsValid s
+  end_unknown : {held left : Totals} {remains : ℕ} {result : Result Ending Refusal} {es : List CallEvent} (x : Refusal) (s t : State) → result ≡ Err x → EndClient (step.CloseOne w id) held left remains result es → IsValid s
       → Leads s es t → client_of w id t.clients ≡ None
   end_unknown x s t e (in_one_hold queued o b result es sum c a) valid l = (first_hears s t c valid l).unknown (answered_unknown x e a)
   end_unknown x s t e (in_more queued n ok mid o b result es fs sum c r a) valid l =
@@ -255,7 +255,7 @@ module _ (law : StepsKeepValidity) (w id : ℕ) where
       (rest_hears split.0 t r h.valid (h.full refl) split.2).unknown (answered_unknown x e a)
 
 -- A client whose end is over is no client of the worker's.
-pub over_is_gone : StepsKeepValidity → (w id : ℕ) {held left : Totals} {remains : ℕ} {es : List Event} (result : Result Ending Refusal) (s t : State) → still_waits result ≡ false
+pub over_is_gone : StepsKeepValidity → (w id : ℕ) {held left : Totals} {remains : ℕ} {es : List CallEvent} (result : Result Ending Refusal) (s t : State) → still_waits result ≡ false
     → EndClient (step.CloseOne w id) held left remains result es → IsValid s → Leads s es t → client_of w id t.clients ≡ None
 over_is_gone law w id (Ok (ending.Ended q)) s t over h valid l = ap (λ o. option_and_then (if_owned w) o) (ended_is_gone law w id s t refl h valid l)
 over_is_gone law w id (Ok (ending.Waiting left why)) s t over h valid l = absurd cc

@@ -14,7 +14,7 @@ use Rattle.iova_sink.specs.declared.sink.SinkFault.{SinkFault}
 use Rattle.iova_sink.specs.Calls.{Call}
 use Rattle.iova_keep.specs.declared.ending.Ending.{Ending}
 use Rattle.iova_keep.specs.Steps.{Takes}
-use Rattle.iova_keep.specs.Events.{Event, Ran, NotRun, Invalidated, Leads}
+use Rattle.iova_keep.specs.Events.{CallEvent, Ran, NotRun, Invalidated, Leads}
 use Rattle.iova_keep.specs.Views.{WhereKnown, SeatState}
 use Rattle.iova_proto.specs.declared.answer.Answer.{Answer}
 use Rattle.iova_proto.specs.declared.answer.Answer.TheVariants as answer
@@ -57,7 +57,7 @@ reaches_step : (s : State) (st : Step) (r : Reply) (t : State) → Takes s st r 
 unfolding Takes
 reaches_step s st r t h = (record { step = st; point = h.0; reply = r } ∷ [], (h.1, tt), sym h.2)
 
-reaches_all : (es : List Event) (s t : State) → Leads s es t → Reaches s t
+reaches_all : (es : List CallEvent) (s t : State) → Leads s es t → Reaches s t
 reaches_all [] s t h = reaches_same s t h
 reaches_all (Ran st r ∷ es) s t h = reaches_then s h.0 t (reaches_step s st r h.0 h.1) (reaches_all es h.0 t h.2)
 reaches_all (NotRun st held ∷ es) s t h = reaches_all es s t h.1

@@ -21,7 +21,7 @@ use Rattle.iova_keep.specs.declared.ending.Ending.{Ending}
 use Rattle.iova_keep.specs.declared.unmapped.Unmapped.TheVariants as unmapped
 use Rattle.iova_keep.specs.Steps.{Takes}
 use Rattle.iova_keep.specs.Views.{WhereKnown, SeatState, TallyState}
-use Rattle.iova_keep.specs.Events.{Event, Leads, Does, Unmapping, run, not_run, sink_calls}
+use Rattle.iova_keep.specs.Events.{CallEvent, Leads, Does, Unmapping, run, not_run, sink_calls}
 use Rattle.iova_keep.specs.Releases.{FlushFollows, no_flush, stays, refused_first, queued_first, DoesRelease}
 use Rattle.iova_keep.specs.Answers.{Allocs}
 use Rattle.iova_keep.specs.Batches.{DoesAsks, StopsAt, Batched, IsReplyTold, IsToldOf, MovesTold, may_do}
@@ -155,7 +155,7 @@ full_is_same : RefusalsKeepTheState → (s : State) (w id lo : ℕ) (r : Reply) 
 unfolding Takes
 full_is_same law s w id lo r t e h = h.2 ∙ law s (step.Unmap w id lo) h.0 refusal.RingFull (sym h.1 ∙ e)
 
-unmapping_same : RefusalsKeepTheState → (w id lo : ℕ) {held : Totals} {r : Reply} {es : List Event} (s t : State)
+unmapping_same : RefusalsKeepTheState → (w id lo : ℕ) {held : Totals} {r : Reply} {es : List CallEvent} (s t : State)
     → Unmapping (step.Unmap w id lo) held r es → r ≡ reply.Refused refusal.RingFull → Leads s es t → t ≡ s
 unmapping_same law w id lo s t (run r) e l = l.2 ∙ full_is_same law s w id lo r l.0 e l.1
 unmapping_same law w id lo s t not_run e l = l.1
@@ -177,7 +177,7 @@ alloc_told w id frames limit (lock_told.Refused f) r s t of e h = absurd e
 alloc_told w id frames limit x r s t of e h = absurd of
 
 -- an unmap calls no sink
-unmapping_calls : (number : ℕ) {st : Step} {held : Totals} {r : Reply} {es : List Event} → Unmapping st held r es → sink_calls number es ≡ []
+unmapping_calls : (number : ℕ) {st : Step} {held : Totals} {r : Reply} {es : List CallEvent} → Unmapping st held r es → sink_calls number es ≡ []
 unmapping_calls number (run r) = refl
 unmapping_calls number not_run = refl
 
@@ -198,7 +198,7 @@ queued_release number seat id lo q calls s t d = record {
     queued_first q None (unmapped.Queued q) d.events [] (no_flush (reply.Queued q) d.events (not_followed (reply.Queued q) (not_full q)) d.allowed) stays,
     sym (append-nil calls) ∙ ap (λ (more : List Call). calls ++ more) (sym (ap (sink_calls number) (append-nil d.events) ∙ unmapping_calls number d.allowed)),
   );
-  leads = subst (λ (es : List Event). Leads s es t) (sym (append-nil d.events)) d.leads;
+  leads = subst (λ (es : List CallEvent). Leads s es t) (sym (append-nil d.events)) d.leads;
 }
 
 refused_release : (number : ℕ) (seat : SeatState) (id lo : ℕ) (e : Refusal) (calls : List Call) (s t : State)

@@ -24,7 +24,7 @@ use Rattle.iova_keep.specs.declared.ending.Ending.{Ending}
 use Rattle.iova_keep.specs.Steps.{Takes}
 use Rattle.iova_keep.specs.Views.{IsUnknown, SeatState}
 use Rattle.iova_keep.specs.Answers.{DoesEndClient}
-use Rattle.iova_keep.specs.Events.{Event, Ran, NotRun, Invalidated, Leads, IsShort, sink_calls, run, not_run, Closing, stops, queues, CloseFirst, closed, closed_full, CloseAgain, closed_again, full_at_once, full_again, CloseRest, last, another, Answered, ended, unknown, gone, share, EndClient, in_one_hold, in_more}
+use Rattle.iova_keep.specs.Events.{CallEvent, Ran, NotRun, Invalidated, Leads, IsShort, sink_calls, run, not_run, Closing, stops, queues, CloseFirst, closed, closed_full, CloseAgain, closed_again, full_none_queued, full_again, CloseRest, last, another, Answered, ended, unknown, gone, share, EndClient, in_one_hold, in_more}
 use Rattle.iova_session.specs.Gone.{HasAtLeast}
 use Rattle.iova_session.specs.Leaving.{still_waits}
 use Rattle.iova_session.proofs.Gone.{takes_valid, leads_split, some_reply}
@@ -36,17 +36,17 @@ pub failed_append : (xs ys : List Call) → failed_calls (xs ++ ys) ≡ failed_c
 failed_append [] ys = omega arith
 failed_append (x ∷ xs) ys = let more = failed_append xs ys in omega (arith, more)
 
-calls_append : (number : ℕ) (es fs : List Event) → sink_calls number (es ++ fs) ≡ sink_calls number es ++ sink_calls number fs
+calls_append : (number : ℕ) (es fs : List CallEvent) → sink_calls number (es ++ fs) ≡ sink_calls number es ++ sink_calls number fs
 calls_append number [] fs = refl
 calls_append number (Ran st r ∷ es) fs = calls_append number es fs
 calls_append number (NotRun st held ∷ es) fs = calls_append number es fs
 calls_append number (Invalidated n ok ∷ es) fs = ap (λ cs. Invalidation number n ok ∷ cs) (calls_append number es fs)
 
-failures_append : (number : ℕ) (es fs : List Event) → failed_calls (sink_calls number (es ++ fs)) ≡ failed_calls (sink_calls number es) + failed_calls (sink_calls number fs)
+failures_append : (number : ℕ) (es fs : List CallEvent) → failed_calls (sink_calls number (es ++ fs)) ≡ failed_calls (sink_calls number es) + failed_calls (sink_calls number fs)
 failures_append number es fs = ap failed_calls (calls_append number es fs) ∙ failed_append (sink_calls number es) (sink_calls number fs)
 
 -- a call among them was good
-call_good : (number n : ℕ) (ok : Bool) (es : List Event) → failed_calls (sink_calls number (Invalidated n ok ∷ es)) ≡ 0 → (ok ≡ true) × (failed_calls (sink_calls number es) ≡ 0)
+call_good : (number n : ℕ) (ok : Bool) (es : List CallEvent) → failed_calls (sink_calls number (Invalidated n ok ∷ es)) ≡ 0 → (ok ≡ true) × (failed_calls (sink_calls number es) ≡ 0)
 call_good number n true es none = (refl, omega (arith, none))
 call_good number n false es none = absurd (omega (arith, none))
 
@@ -70,7 +70,7 @@ same_number : {n m : ℕ} → ◌≡◌ {A = Option Reply} (Some (reply.Begun m)
 same_number e = cc
 
 -- closings only lower the shares
-closing_lowers : {w id : ℕ} {held left : Totals} {r : Reply} {es : List Event} → Closing (step.CloseOne w id) held left r es → left.count ≤ held.count
+closing_lowers : {w id : ℕ} {held left : Totals} {r : Reply} {es : List CallEvent} → Closing (step.CloseOne w id) held left r es → left.count ≤ held.count
 closing_lowers (stops held left r es even other u) = let c = ap (λ (x : Totals). x.count) even in omega (arith, c)
 closing_lowers (queues held mid left q r es sum k) =
     let c = ap (λ (x : Totals). x.count) sum in
@@ -78,7 +78,7 @@ closing_lowers (queues held mid left q r es sum k) =
     omega (arith, c, more)
 
 module _ (law : StepsKeepValidity) (w id : ℕ) (rest : List Client) where
-  closing_closes : {held left : Totals} {r : Reply} {es : List Event} (s t : State) → Closing (step.CloseOne w id) held left r es → IsValid s → Lone w id rest held MAX_SERIAL s → Leads s es t
+  closing_closes : {held left : Totals} {r : Reply} {es : List CallEvent} (s t : State) → Closing (step.CloseOne w id) held left r es → IsValid s → Lone w id rest held MAX_SERIAL s → Leads s es t
       → Closed w id rest left r t
   closing_closes s t (stops held left r es even other (run q)) valid lone l =
       let says : (q : Reply) → r ≡ q → Says w id rest held MAX_SERIAL s lone.client q l.0 = λ q e. subst (λ (x : Reply). Says w id rest held MAX_SERIAL s lone.client x l.0) e (takes_lone w id rest held MAX_SERIAL s r l.0 lone l.1) in
@@ -100,7 +100,7 @@ module _ (law : StepsKeepValidity) (w id : ℕ) (rest : List Client) where
     closed : Closed w id rest left r t
     less : r ≡ reply.Refused refusal.RingFull → left.count < held.count
 
-  fresh_closes : {held left : Totals} {r : Reply} {es : List Event} (s t : State) → Closing (step.CloseOne w id) held left r es → IsValid s → Fresh w id rest held s → Leads s es t
+  fresh_closes : {held left : Totals} {r : Reply} {es : List CallEvent} (s t : State) → Closing (step.CloseOne w id) held left r es → IsValid s → Fresh w id rest held s → Leads s es t
       → FreshClosed held left r t
   fresh_closes s t (stops held left r es even other (run q)) valid fresh l =
       let says : (q : Reply) → r ≡ q → Says w id rest held (MAX_SERIAL + 1) s fresh.full.lone.client q l.0 =
@@ -128,7 +128,7 @@ module _ (law : StepsKeepValidity) (w id : ℕ) (rest : List Client) where
       }
 
   -- where the ring was full, the flush begins
-  begun_holds : (left : Totals) (es : List Event) (s t : State) (begin : Reply) → ((m : State) → Leads s es m → Closed w id rest left (reply.Refused refusal.RingFull) m) → Leads s (es ++ Ran step.Begin begin ∷ []) t
+  begun_holds : (left : Totals) (es : List CallEvent) (s t : State) (begin : Reply) → ((m : State) → Leads s es m → Closed w id rest left (reply.Refused refusal.RingFull) m) → Leads s (es ++ Ran step.Begin begin ∷ []) t
       → Holds w id rest left (Some (reply.Refused refusal.RingFull)) (Some begin) t
   begun_holds left es s t begin closes l =
       let h = leads_split es (Ran step.Begin begin ∷ []) s t l in
@@ -149,22 +149,22 @@ module _ (law : StepsKeepValidity) (w id : ℕ) (rest : List Client) where
     only = λ e is. c.only e (some_reply is);
   }
 
-  first_holds : {held left : Totals} {o b : Option Reply} {es : List Event} (s t : State) → CloseFirst (step.CloseOne w id) held left o b es → IsValid s → Lone w id rest held MAX_SERIAL s → Leads s es t
+  first_holds : {held left : Totals} {o b : Option Reply} {es : List CallEvent} (s t : State) → CloseFirst (step.CloseOne w id) held left o b es → IsValid s → Lone w id rest held MAX_SERIAL s → Leads s es t
       → Holds w id rest left o b t
   first_holds s t (closed r es other k) valid lone l = closed_holds other (closing_closes s t k valid lone l)
   first_holds {left = left} s t (closed_full begin es k) valid lone l = begun_holds left es s t begin (λ m lm. closing_closes s m k valid lone lm) l
 
-  again_holds : {held left : Totals} {n : ℕ} {o b : Option Reply} {es : List Event} (s t : State) → CloseAgain (step.CloseOne w id) n true held left o b es → IsValid s → Flying w id rest held n s → Leads s es t
+  again_holds : {held left : Totals} {n : ℕ} {o b : Option Reply} {es : List CallEvent} (s t : State) → CloseAgain (step.CloseOne w id) n true held left o b es → IsValid s → Flying w id rest held n s → Leads s es t
       → Holds w id rest left o b t
   again_holds {held = held} {n = n} s t (closed_again end r es other k) valid fly l =
       closed_holds other (fresh_closes l.0 t k (takes_valid law s (step.End n true) end l.0 valid l.1) (end_lone w id rest held n s end l.0 fly l.1) l.2).closed
-  again_holds {held = held} {n = n} s t (full_at_once end es even k) valid fly l =
+  again_holds {held = held} {n = n} s t (full_none_queued end es even k) valid fly l =
       let h = fresh_closes l.0 t k (takes_valid law s (step.End n true) end l.0 valid l.1) (end_lone w id rest held n s end l.0 fly l.1) l.2 in
       absurd (let less = h.less refl in omega (arith, less, even))
   again_holds {held = held} {left = left} {n = n} s t (full_again end begin es less k) valid fly l =
       begun_holds left es l.0 t begin (λ m lm. (fresh_closes l.0 m k (takes_valid law s (step.End n true) end l.0 valid l.1) (end_lone w id rest held n s end l.0 fly l.1) lm).closed) l.2
 
-  rest_holds : {n : ℕ} {held left : Totals} {ok : Bool} {o b : Option Reply} {es : List Event} (number : ℕ) (s t : State) → CloseRest (step.CloseOne w id) n held left ok o b es → IsValid s → Flying w id rest held n s
+  rest_holds : {n : ℕ} {held left : Totals} {ok : Bool} {o b : Option Reply} {es : List CallEvent} (number : ℕ) (s t : State) → CloseRest (step.CloseOne w id) n held left ok o b es → IsValid s → Flying w id rest held n s
       → failed_calls (sink_calls number es) ≡ 0 → Leads s es t → Holds w id rest left o b t
   rest_holds number s t (last n ok held left o b es k) valid fly none l =
       let good = call_good number n ok es none in
@@ -195,7 +195,7 @@ module _ (law : StepsKeepValidity) (w id : ℕ) (rest : List Client) where
   answered_ends share h = absurd (let no = h.only refusal.NotHeld refl in cc)
   answered_ends a h = absurd (let no = (h.full refl).1 in cc)
 
-  end_ends : {held left : Totals} {remains : ℕ} {result : Result Ending Refusal} {es : List Event} (number : ℕ) (s t : State) → EndClient (step.CloseOne w id) held left remains result es → IsValid s
+  end_ends : {held left : Totals} {remains : ℕ} {result : Result Ending Refusal} {es : List CallEvent} (number : ℕ) (s t : State) → EndClient (step.CloseOne w id) held left remains result es → IsValid s
       → Lone w id rest held MAX_SERIAL s → failed_calls (sink_calls number es) ≡ 0 → Leads s es t → Ends left result t
   end_ends number s t (in_one_hold queued o b result es sum c a) valid lone none l = answered_ends a (first_holds s t c valid lone l)
   end_ends number s t (in_more queued n ok mid o b result es fs sum c r a) valid lone none l =
@@ -246,7 +246,7 @@ record Unmoved (s : State) (held left : Totals) (r : Reply) (t : State) : Type 0
   same : t ≡ s
   shares : left ≡ held
 
-closing_unseen : {w id : ℕ} {held left : Totals} {r : Reply} {es : List Event} (s t : State) → Closing (step.CloseOne w id) held left r es → client_of w id s.clients ≡ None → Leads s es t → Unmoved s held left r t
+closing_unseen : {w id : ℕ} {held left : Totals} {r : Reply} {es : List CallEvent} (s t : State) → Closing (step.CloseOne w id) held left r es → client_of w id s.clients ≡ None → Leads s es t → Unmoved s held left r t
 closing_unseen {w = w} {id = id} s t (stops held left r es even other (run q)) none l =
     let u = takes_unseen s w id r l.0 none l.1 in
     record { reply = u.reply; same = l.2 ∙ u.same; shares = even }
@@ -260,7 +260,7 @@ record UnmovedHold (s : State) (held left : Totals) (o : Option Reply) (t : Stat
   same : t ≡ s
   shares : left ≡ held
 
-first_unseen : {w id : ℕ} {held left : Totals} {o b : Option Reply} {es : List Event} (s t : State) → CloseFirst (step.CloseOne w id) held left o b es → client_of w id s.clients ≡ None → Leads s es t → UnmovedHold s held left o t
+first_unseen : {w id : ℕ} {held left : Totals} {o b : Option Reply} {es : List CallEvent} (s t : State) → CloseFirst (step.CloseOne w id) held left o b es → client_of w id s.clients ≡ None → Leads s es t → UnmovedHold s held left o t
 first_unseen s t (closed r es other k) none l = let u = closing_unseen s t k none l in record { reply = r; is = refl; unseen = u.reply; same = u.same; shares = u.shares }
 first_unseen s t (closed_full begin es k) none l =
     let h = leads_split es (Ran step.Begin begin ∷ []) s t l in
@@ -281,7 +281,7 @@ record EndsUnseen (s : State) (held left : Totals) (result : Result Ending Refus
   same : t ≡ s
   shares : left ≡ held
 
-end_unseen : {w id : ℕ} {held left : Totals} {remains : ℕ} {result : Result Ending Refusal} {es : List Event} (s t : State) → EndClient (step.CloseOne w id) held left remains result es → client_of w id s.clients ≡ None → Leads s es t
+end_unseen : {w id : ℕ} {held left : Totals} {remains : ℕ} {result : Result Ending Refusal} {es : List CallEvent} (s t : State) → EndClient (step.CloseOne w id) held left remains result es → client_of w id s.clients ≡ None → Leads s es t
     → EndsUnseen s held left result t
 end_unseen s t (in_one_hold queued o b result es sum c a) none l =
     let u = first_unseen s t c none l in

@@ -19,7 +19,7 @@ use Rattle.iova_keep.specs.declared.ending.Ending.TheVariants as ending
 use Rattle.iova_keep.specs.declared.ending.Why.{Why}
 use Rattle.iova_keep.specs.Steps.{Takes}
 use Rattle.iova_keep.specs.Views.{WhereKnown, SeatState, IsKept, left_in, left_of}
-use Rattle.iova_keep.specs.Events.{Event, Ran, NotRun, Invalidated, Leads, Answered, ended, unknown, gone, EndClient, in_one_hold, in_more}
+use Rattle.iova_keep.specs.Events.{CallEvent, Ran, NotRun, Invalidated, Leads, Answered, ended, unknown, gone, EndClient, in_one_hold, in_more}
 use Rattle.iova_keep.specs.Answers.{DoesEndClient}
 use Rattle.iova_proto.specs.declared.answer.Answer.{Answer}
 use Rattle.iova_proto.specs.declared.answer.Answer.TheVariants as answer
@@ -43,7 +43,7 @@ answered_left e (unknown x known none) = absurd cc
 answered_left e (gone x known some) = absurd cc
 answered_left e a = left_same e
 
-told_left : {st : Step} {held left : Totals} {remains n : ℕ} {why : Why} {es : List Event} → EndClient st held left remains (Ok (ending.Waiting n why)) es → n ≡ remains
+told_left : {st : Step} {held left : Totals} {remains n : ℕ} {why : Why} {es : List CallEvent} → EndClient st held left remains (Ok (ending.Waiting n why)) es → n ≡ remains
 told_left (in_one_hold queued o b result es e c a) = answered_left refl a
 told_left (in_more queued k ok mid o b result es fs e c r a) = answered_left refl a
 
@@ -75,7 +75,7 @@ pub takes_keep : OthersKeepTheirHoldings → (s : State) (st : Step) (r : Reply)
 unfolding Takes
 takes_keep law s st r t h id other = ap (λ (x : State). held_by id x.clients) h.2 ∙ law s st h.0 id other
 
-pub leads_keep : OthersKeepTheirHoldings → (id : ℕ) (es : List Event) (o p : Option ℕ) (held left : Totals) (s t : State) → Goes id o held es p left → Leads s es t → KeepsOthers (Some id) s t
+pub leads_keep : OthersKeepTheirHoldings → (id : ℕ) (es : List CallEvent) (o p : Option ℕ) (held left : Totals) (s t : State) → Goes id o held es p left → Leads s es t → KeepsOthers (Some id) s t
 leads_keep law id [] o p held left s t g l = λ other ne. ap (λ (x : State). held_by other x.clients) l
 leads_keep law id (Ran st r ∷ es) o p held left s t g l = λ other ne.
     leads_keep law id es g.0 p g.1 left l.0 t g.3 l.2 other ne ∙ takes_keep law s st r l.0 l.1 other (λ e. ne (ap Some (sym (passes_name g.2 other e))))
@@ -83,7 +83,7 @@ leads_keep law id (NotRun st h ∷ es) o p held left s t g l = leads_keep law id
 leads_keep law id (Invalidated n ok ∷ es) o p held left s t g l = leads_keep law id es o p held left s t g l
 
 -- steps that name no client leave the holdings of all
-pub leads_keep_all : OthersKeepTheirHoldings → (es : List Event) (o p : Option ℕ) (held left : Totals) (s t : State) → ((id : ℕ) → Goes id o held es p left) → Leads s es t → KeepsOthers None s t
+pub leads_keep_all : OthersKeepTheirHoldings → (es : List CallEvent) (o p : Option ℕ) (held left : Totals) (s t : State) → ((id : ℕ) → Goes id o held es p left) → Leads s es t → KeepsOthers None s t
 leads_keep_all law es o p held left s t n l = λ other ne.
     leads_keep law (other + 1) es o p held left s t (n (other + 1)) l other (λ e. absurd (let same : other ≡ other + 1 = some_same e in omega (arith, same)))
 

@@ -22,7 +22,7 @@ pub record Wire : Type 0 where
 
 -- a link whose bytes are not known: how many reads there were, failures, and reads that found the
 -- end
-pub record Counted : Type 0 where
+pub record LinkCounts : Type 0 where
   pub reads : ℕ
   pub failures : ℕ
   pub ends : ℕ

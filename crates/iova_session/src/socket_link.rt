@@ -21,9 +21,9 @@ pub struct SocketLink {
 }
 
 impl Model for SocketLink {
-    ghost use Rattle.iova_session.specs.Links.{Counted};
+    ghost use Rattle.iova_session.specs.Links.{LinkCounts};
 
-    ghost Value = { Counted };
+    ghost Value = { LinkCounts };
 
     ghost view = { λ l. record { reads = l.reads; failures = l.failed; ends = l.ended } };
 }
