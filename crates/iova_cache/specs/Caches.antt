@@ -29,7 +29,7 @@ pub record CacheState : Type 0 where
 abbrev pub most_of : Bool → ℕ
 most_of sac = if sac then SAC_LIMIT else 2 ^ 64 - 1
 
--- with no range
+-- a cache with no range
 abbrev pub new_cache : ℕ → ℕ → Bool → CacheState
 new_cache worker client sac = record {
   worker = worker;

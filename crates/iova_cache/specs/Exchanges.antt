@@ -38,7 +38,7 @@ IsOwnRefusal c frames refusal.TooBig = MAX_FRAMES < frames
 IsOwnRefusal c frames refusal.NoMemory = c.room ≡ false
 IsOwnRefusal c frames x = ⊥
 
--- It has refused, and the cache has what it had.
+-- The domain has refused this step, and the cache has what it had.
 pub record IsDenied (old new : CacheState) (s t : State) (asked : Step) (x : Refusal) : Type 0 where
   pub step : IsStepOf s asked (reply.Refused x) t
   pub held : Same old.held new.held

@@ -9,7 +9,7 @@ use Rattle.iova_cache.specs.declared.table.TheConstants.{SPREAD, SHIFT, FIRST_BI
 abbrev pub word_range : ℕ → Frames
 word_range w = record { lo = w % 2 ^ 40; len = w / 2 ^ 40 }
 
--- it has a frame at least, and no more than a request may have
+-- the range of a word has a frame at least, and no more than a request may have
 abbrev pub IsWord : ℕ → Type 0
 IsWord w = (2 ^ 40 ≤ w) × (w / 2 ^ 40 ≤ MAX_FRAMES)
 

@@ -16,13 +16,13 @@ tells_lost other.Plain = false
 tells_lost other.Lost = true
 tells_lost other.TooLong = false
 
--- it is too long to be read
+-- the line is too long to be read
 abbrev pub is_long : OtherLine → Bool
 is_long other.Plain = false
 is_long other.Lost = false
 is_long other.TooLong = true
 
--- with a line more, which has so many findings
+-- the counts with a line more, which has so many findings
 abbrev pub counts_after : LogCounts → Event → ℕ → LogCounts
 counts_after c (event.Map r) found =
     record {
@@ -148,7 +148,7 @@ is_other (event.End number ok) = false
 is_other (event.Flush range) = false
 is_other (event.Other what) = true
 
--- it says that events were lost
+-- the line says that events were lost
 abbrev pub is_lost : Event → Bool
 is_lost (event.Map r) = false
 is_lost (event.Unmap r) = false
@@ -158,7 +158,7 @@ is_lost (event.End number ok) = false
 is_lost (event.Flush range) = false
 is_lost (event.Other what) = tells_lost what
 
--- it was too long to be read
+-- the line was too long to be read
 abbrev pub is_too_long : Event → Bool
 is_too_long (event.Map r) = false
 is_too_long (event.Unmap r) = false
@@ -194,6 +194,6 @@ unfoldable pub count_below : (ℕ → Bool) → ℕ → ℕ
 count_below passes zero = 0
 count_below passes (suc n) = (if passes n then 1 else 0) + count_below passes n
 
--- of how many frames that a line can name the kind tells something, where they are at these stages
+-- how many frames that a line can name have a finding of this kind, where they are at these stages
 abbrev pub frames_told : Kind → (ℕ → Stage) → ℕ
 frames_told kind at = count_below (λ f. is_some (since_of kind (at f))) (2 ^ 64 - 1)

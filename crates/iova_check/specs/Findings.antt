@@ -65,7 +65,7 @@ are_joined (stage.Mapped since) stage.Free = false
 are_joined (stage.Mapped since) (stage.Stale other) = false
 are_joined (stage.Mapped since) (stage.Mapped other) = since == other
 
--- the frame and the one before it are
+-- the frame and the one before it are mapped since one line
 abbrev pub is_joined : (ℕ → Stage) → ℕ → Bool
 is_joined at zero = false
 is_joined at (suc f) = are_joined (at f) (at (suc f))
@@ -107,7 +107,7 @@ pub record IsMapTold (bounds : Bounds) (at : ℕ → Stage) (r : Frames)
   pub are : fs ≡ of_run kind.Outside outside ∷ of_run kind.Overlap overlap ∷ of_run kind.Reused
       reused ∷ []
 
--- that unmaps them
+-- the findings of a line that unmaps these frames
 pub record IsUnmapTold (bounds : Bounds) (at : ℕ → Stage) (r : Frames)
     (fs : List (Option Finding)) : Type 0 where
   pub outside : Option Run
@@ -119,7 +119,7 @@ pub record IsUnmapTold (bounds : Bounds) (at : ℕ → Stage) (r : Frames)
   pub are : fs ≡ of_run kind.Outside outside ∷ of_run kind.Cut cut ∷ of_run kind.Unmapped
       unmapped ∷ []
 
--- at which a device reached them
+-- the findings of a line at which a device reached these frames
 pub record IsUseTold (bounds : Bounds) (at : ℕ → Stage) (r : Frames)
     (fs : List (Option Finding)) : Type 0 where
   pub outside : Option Run
@@ -130,7 +130,7 @@ pub record IsUseTold (bounds : Bounds) (at : ℕ → Stage) (r : Frames)
   pub is_wild : IsFound (λ f. since_of kind.Wild (at f)) r.lo (r.lo + r.len) wild
   pub are : fs ≡ of_run kind.Outside outside ∷ of_run kind.Stale stale ∷ of_run kind.Wild wild ∷ []
 
--- of a flush that is out of order
+-- the findings of a line that begins or ends a flush, which may be out of order
 abbrev pub flush_told : ℕ → Bool → List (Option Finding)
 flush_told number odd = (if odd then Some (finding.Flush number) else None) ∷ None ∷ None ∷ []
 
@@ -150,7 +150,7 @@ AreFindings bounds at flights (event.Other what) fs = fs ≡ None ∷ None ∷ N
 
 -- The promise
 
--- it is of a frame that a device might still reach
+-- a finding of this kind is of a frame that a device might still reach
 abbrev pub is_reuse_of : Kind → Bool
 is_reuse_of kind.Outside = false
 is_reuse_of kind.Overlap = true

@@ -27,7 +27,8 @@ abbrev pub events_text : List Event → List ℕ
 events_text [] = []
 events_text (e ∷ past) = events_text past ++ whole_line (event_text e)
 
--- They are a log: a header, which says nothing of frames or flushes, and a line for each event.
+-- The lines are a log: a header, which says nothing of frames or flushes, and a line for each
+-- event.
 pub record IsLog (asked : LogBounds) (l : Lines) : Type 0 where
   pub first : ℕ
   pub last : ℕ
@@ -45,7 +46,7 @@ AreSaid domain (e ∷ past) text =
     (before : List ℕ) × (line : List ℕ) × AreSaid domain past before × HasNoLf line
     × (e ≡ event_said domain line) × (text ≡ before ++ whole_line line)
 
--- They are lines of a kernel's trace, in which any frame up to the greatest may be mapped where
+-- The lines are a kernel's trace, in which any frame up to the greatest may be mapped where
 -- nothing else is asked for.
 pub record IsTrace (asked : LogBounds) (domain : Option ℕ) (l : Lines) : Type 0 where
   pub under : l.bounds ≡ bounds_asked asked 0 WIDE_TOP
@@ -73,7 +74,7 @@ abbrev pub first_lines_text : Option Lines → List ℕ
 first_lines_text None = []
 first_lines_text (Some l) = l.text
 
--- the number of the line after them
+-- the number of the line after these lines
 abbrev pub next_line_number : Option Lines → ℕ
 next_line_number None = 1
 next_line_number (Some l) = next_line l.past
@@ -96,7 +97,7 @@ pub record BeginsWithLines (source : Source) (bytes : List ℕ) (lines : Option 
 abbrev pub IsOther : Option Lines → List ℕ → Type 0
 IsOther lines rest = BeginsOdd (λ line. ¬ MayFollow lines line) rest
 
--- such a line, or one that is too long
+-- the rest begins with a line that may not stand there, or with one that is too long
 abbrev pub IsBad : Option Lines → List ℕ → Type 0
 IsBad lines rest = IsOther lines rest ⊎ IsOverlong rest
 

@@ -15,7 +15,7 @@ abbrev pub is_line : (Event → Bool) → List Event → ℕ → Bool
 is_line passes [] n = false
 is_line passes (e ∷ past) n = if n == next_line past then passes e else is_line passes past n
 
--- it maps the frame
+-- the line maps the frame
 abbrev pub maps : ℕ → Event → Bool
 maps f (event.Map r) = covers f r
 maps f (event.Unmap r) = false
@@ -25,7 +25,7 @@ maps f (event.End number ok) = false
 maps f (event.Flush range) = false
 maps f (event.Other what) = false
 
--- it unmaps the frame
+-- the line unmaps the frame
 abbrev pub unmaps : ℕ → Event → Bool
 unmaps f (event.Map r) = false
 unmaps f (event.Unmap r) = covers f r
@@ -66,7 +66,7 @@ is_of number (event.End ended ok) = ended == number
 is_of number (event.Flush range) = false
 is_of number (event.Other what) = false
 
--- it is a whole flush, which has the frame
+-- the line is a whole flush, which has the frame
 abbrev pub flushes : ℕ → Event → Bool
 flushes f (event.Map r) = false
 flushes f (event.Unmap r) = false

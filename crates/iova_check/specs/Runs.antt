@@ -97,7 +97,7 @@ pub record EndsInLine (taken : List ℕ) (left : Option (List ℕ)) (read : List
   pub ended : read ≡ before ++ whole_line line
   pub end : IsAtEnd left
 
--- the bytes that were taken are read so
+-- these bytes are read, where those were taken
 abbrev pub AreRead : Form → List ℕ → Option (List ℕ) → List ℕ → Type 0
 AreRead form.Log taken left read = read ≡ taken
 AreRead (form.Trace domain) taken left read = (read ≡ taken) ⊎ EndsInLine taken left read

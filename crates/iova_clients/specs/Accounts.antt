@@ -84,6 +84,6 @@ clients_at es = map client_at es
 abbrev pub is_newer_entry : ℕ → ℕ → ℕ × Account → Bool
 is_newer_entry worker than e = is_newer worker than (client_at e)
 
--- by its serial, how many more holdings each can be given without memory
+-- by its serial, how many more holdings each client can be given without memory
 abbrev pub spares_at : List (ℕ × Account) → List (ℕ × ℕ)
 spares_at es = map (λ e. (e.0, e.1.spare)) es

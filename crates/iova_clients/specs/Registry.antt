@@ -46,13 +46,13 @@ pub record IsRegistry (r : Registry) : Type 0 where
 
 -- Refusals
 
--- of `open`, where memory is left
+-- the refusal of `open`, where memory is left
 abbrev pub open_refusal : Registry → Option Refusal
 open_refusal r =
     first_refusal ((nat_le MAX_SERIAL r.serial, refusal.Worn)
     ∷ (nat_le MAX_CLIENTS (length r.clients), refusal.ClientsFull) ∷ [])
 
--- of `room`, where memory is left
+-- the refusal of `room`, where memory is left
 abbrev pub room_refusal : Option Client → Option Refusal
 room_refusal None = Some refusal.NoClient
 room_refusal (Some c) =

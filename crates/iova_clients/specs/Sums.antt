@@ -10,7 +10,7 @@ abbrev pub added : List Totals → Totals
 added [] = no_totals
 added (t ∷ ts) = add_totals t (added ts)
 
--- with one holding more, and with one less
+-- totals with one holding more, and with one less
 abbrev pub with_one : Frames → Totals → Totals
 with_one r t = add_totals t (totals_of (r ∷ []))
 

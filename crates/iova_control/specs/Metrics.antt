@@ -132,7 +132,7 @@ refusals_kind =
     kind_text (codes "iovad_refusals_total") (codes "counter")
     (codes "Requests that were refused, by number.")
 
--- of which kind the sink is, which program it is, and which name it has
+-- the metric that says of which kind the sink is
 abbrev pub sink_text : Bool → List ℕ
 sink_text has_peer =
     kind_text (codes "iovad_sink") (codes "gauge") (codes "Of which kind the sink is.")

@@ -24,7 +24,7 @@ abbrev pub rows_text : ℕ → List SessionRow → List ℕ
 rows_text worker [] = []
 rows_text worker (r ∷ rows) = row_text worker r ++ rows_text worker rows
 
--- those of this worker and of the workers behind it
+-- the sessions of this worker and of the workers behind it
 abbrev pub sessions_text : ℕ → List (List SessionRow) → List ℕ
 sessions_text worker [] = []
 sessions_text worker (rows ∷ more) = rows_text worker rows ++ sessions_text (suc worker) more
@@ -34,7 +34,7 @@ abbrev pub PutsRows : (worker count : ℕ) → List ℕ → List ℕ → Type 0
 PutsRows worker count old new =
     (rows : List SessionRow) × (length rows ≡ count) × (new ≡ old ++ rows_text worker rows)
 
--- those of so many workers, from this one on
+-- the sessions of so many workers, from this one on, were put behind what stood there
 abbrev pub PutsSessions : (worker count : ℕ) → List ℕ → List ℕ → Type 0
 PutsSessions worker count old new =
     (all : List (List SessionRow)) × (length all ≡ count) × (new ≡ old ++ sessions_text worker all)

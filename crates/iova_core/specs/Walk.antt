@@ -19,8 +19,8 @@ get_cached c w size limit None = (None, c)
 get_cached c w size limit (Some o) =
     let got = get (shelf_at c w o) limit size in (got.0, with_shelf c w o got.1)
 
--- Of the tree alone: the range is inserted at the best place, or its growth was refused and nothing
--- is; or nothing fits.
+-- What is asked of the tree alone: the range is inserted at the best place, or its growth was
+-- refused and nothing is inserted; or nothing fits.
 abbrev pub Places : Option ℕ → Point → ℕ → Space → Space → Walked → Type 0
 Places None here size old new found.Nowhere = new ≡ old
 Places (Some lo) here size old new (found.Placed r) =

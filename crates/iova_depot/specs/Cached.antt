@@ -48,7 +48,7 @@ with_contents c caches = record c { caches = caches }
 abbrev pub depot_at : Caches → ℕ → List (List ℕ)
 depot_at c order = slice_index_or c.depots order []
 
--- it has as many magazines as it takes
+-- an order's depot has as many magazines as it takes
 abbrev pub IsDepotFull : Cached → ℕ → Type 0
 IsDepotFull c order = length (depot_at c.caches order) ≡ c.profile.depot
 

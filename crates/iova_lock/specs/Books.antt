@@ -51,7 +51,7 @@ pub record ReadsNewer (worker than : ℕ) (s : State) (before after : List Frame
   pub serial : id ≡ option_map (λ c. c.id) (newer_client worker than s.clients)
   pub ranges : after ≡ before ++ holdings_in (option_and_then (λ i. client_with i s.clients) id)
 
--- its own serial, and its ranges in any order
+-- What is read of the first client of a worker behind a serial, its ranges in any order.
 pub record AppendsNewer (worker than : ℕ) (s : State) (before after : List Frames)
     (id : Option ℕ) : Type 0 where
   pub serial : id ≡ option_map (λ c. c.id) (newer_client worker than s.clients)

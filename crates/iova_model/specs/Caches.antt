@@ -83,8 +83,8 @@ abbrev pub fitting : List ℕ → ℕ → ℕ → Option ℕ
 fitting loaded limit size =
     greatest (λ i. nat_le (slice_index loaded i + size - 1) limit) (length loaded)
 
--- That entry is given, the last one is written to its place, and the list is one shorter. Without
--- one the moves stand.
+-- The entry at this place is given, the last one is written there, and the list is one shorter.
+-- Without a place the shelf stays as it is.
 abbrev pub pop_entry : Shelf → Option ℕ → Option ℕ × Shelf
 pop_entry s None = (None, s)
 pop_entry s (Some i) = (

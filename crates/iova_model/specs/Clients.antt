@@ -76,7 +76,7 @@ abbrev pub totals_of : List Frames → Totals
 totals_of rs =
     record { count = length rs; frames = sum_by (λ r. r.len) rs; sum_lo = sum_by (λ r. r.lo) rs }
 
--- of no holdings
+-- the totals of no holdings
 abbrev pub no_totals : Totals
 no_totals = totals_of []
 

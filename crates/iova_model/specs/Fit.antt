@@ -27,7 +27,7 @@ IsBest bounds ranges size limit (Some best) =
 
 -- The best place as a function, for sizes and ranges of a frame at least.
 
--- it meets none of the ranges
+-- a range meets none of these ranges
 abbrev pub is_clear : Frames → List Frames → Bool
 is_clear r ranges = list_all (λ x. not (meets r x)) ranges
 

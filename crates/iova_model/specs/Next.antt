@@ -163,7 +163,7 @@ from_tree s None no_memory = record { found = Nowhere; state = s }
 from_tree s (Some lo) no_memory =
     record { found = if no_memory then OutOfMemory else At lo; state = s }
 
--- where there was nothing, the tree alone is asked again, with all caches emptied
+-- where a try found nothing, the tree alone is asked again, with all caches emptied
 abbrev pub or_emptied : Found → State → ℕ → ℕ → Bool → Bool → Tried
 or_emptied Nowhere s size limit true no_memory =
     let s' = with_caches s (without_entries s.caches) in from_tree s'

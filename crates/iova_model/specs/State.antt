@@ -51,14 +51,14 @@ abbrev pub client_holders : List Client → List Holder
 client_holders [] = []
 client_holders (c ∷ cs) = at_place (place.Client c.id) c.holdings ++ client_holders cs
 
--- of one worker from order o on
+-- what one worker caches, from order o on
 abbrev pub cache_holders : ℕ → ℕ → List Cache → List Holder
 cache_holders w o [] = []
 cache_holders w o (c ∷ cs) =
     at_place (place.Magazine w) (of_order o c.loaded)
     ++ (at_place (place.Magazine w) (of_order o c.previous) ++ cache_holders w (o + 1) cs)
 
--- of the workers from w on
+-- what the workers from w on cache
 abbrev pub magazine_holders : ℕ → List (List Cache) → List Holder
 magazine_holders w [] = []
 magazine_holders w (cs ∷ rest) = cache_holders w 0 cs ++ magazine_holders (w + 1) rest
@@ -67,12 +67,12 @@ abbrev pub list_holders : ℕ → List (List ℕ) → List Holder
 list_holders o [] = []
 list_holders o (los ∷ rest) = at_place place.Depot (of_order o los) ++ list_holders o rest
 
--- of the orders from o on
+-- what the depots of the orders from o on have
 abbrev pub depot_holders : ℕ → List (List (List ℕ)) → List Holder
 depot_holders o [] = []
 depot_holders o (d ∷ rest) = list_holders o d ++ depot_holders (o + 1) rest
 
--- of the workers from w on
+-- what the rings of the workers from w on have
 abbrev pub ring_holders : ℕ → List (List Entry) → List Holder
 ring_holders w [] = []
 ring_holders w (r ∷ rest) = at_place (place.Ring w) (map entry_range r) ++ ring_holders (w + 1) rest
@@ -80,11 +80,11 @@ ring_holders w (r ∷ rest) = at_place (place.Ring w) (map entry_range r) ++ rin
 abbrev pub cached_holders : Caches → List Holder
 cached_holders c = magazine_holders 0 c.workers ++ depot_holders 0 c.depots
 
--- all but windows
+-- all holders but windows
 abbrev pub owners : State → List Holder
 owners s = client_holders s.clients ++ (cached_holders s.caches ++ ring_holders 0 s.rings)
 
--- all
+-- all holders
 abbrev pub holders : State → List Holder
 holders s = window_holders s.windows ++ owners s
 

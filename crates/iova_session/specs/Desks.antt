@@ -102,7 +102,7 @@ IsListRefusal listed e =
     (e ≡ refusal.NoClient) ⊎ (e ≡ refusal.NoMemory)
     ⊎ ((e ≡ refusal.TooMany) × (MAX_LISTED < listed + MAX_HOLDINGS))
 
--- Without a client.
+-- What a request may be answered without a client.
 abbrev pub IsFirstAnswer : ℕ → Request → Answer → Type 0
 IsFirstAnswer number (request.Hello domain sac) (answer.Opened id) = domain ≡ number
 IsFirstAnswer number (request.Hello domain sac) (answer.Refused e) = IsHelloRefusal number domain e
@@ -114,7 +114,7 @@ IsFirstAnswer number request.Flush a = a ≡ answer.Refused refusal.NoClient
 IsFirstAnswer number request.Stat a = a ≡ answer.Refused refusal.NoClient
 IsFirstAnswer number request.Bye a = a ≡ answer.Bye
 
--- With a client, where so many ranges were listed.
+-- What a request may be answered with a client, where so many ranges were listed.
 abbrev pub IsClientAnswer : ℕ → Request → Answer → Type 0
 IsClientAnswer listed (request.Hello domain sac) a = a ≡ answer.Refused refusal.Twice
 IsClientAnswer listed (request.Alloc frames limit) (answer.Given r) = IsGivenTo frames limit r
@@ -158,7 +158,7 @@ totals_code =
     (λ t. (t.count, (t.frames, t.sum_lo)))
     (λ p. record { count = p.0; frames = p.1.0; sum_lo = p.1.1 }) (λ _. refl)
 
--- that is one fact: two proofs of it are equal
+-- how the shares move is one fact: two proofs of it are equal
 pub MovesBy-prop : (given taken : List Frames) (old new : Totals)
     → IsProp (MovesBy given taken old new)
 MovesBy-prop given taken old new =

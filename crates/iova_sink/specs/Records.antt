@@ -20,11 +20,11 @@ record_text true domain number = 10 ∷ inval_line domain number
 abbrev pub answer_line : List ℕ → List ℕ → ℕ → List ℕ
 answer_line outcome word number = outcome ++ (32 ∷ (word ++ (32 ∷ (decimal number ++ 10 ∷ []))))
 
--- all of it is done
+-- the answer that all of a request is done
 abbrev pub done_line : List ℕ → ℕ → List ℕ
 done_line word number = answer_line (codes "done") word number
 
--- it failed
+-- the answer that a request failed
 abbrev pub fail_line : List ℕ → ℕ → List ℕ
 fail_line word number = answer_line (codes "fail") word number
 

@@ -7,8 +7,8 @@ use Rattle.iova_trace.specs.declared.fault.ReplayFault.{ReplayFault}
 use Rattle.iova_trace.specs.declared.fault.ReplayFault.TheVariants as fault
 use Rattle.iova_trace.specs.Logged.{ReplaysAndLogs}
 
--- of the text that is to be written, this is; refused memory, nothing, and some first bytes where a
--- write fails
+-- how much is written of a text: all of it, nothing where memory is refused, and some first bytes
+-- where a write fails
 abbrev pub WritesText : List ℕ → List ℕ → Result ⊤ ReplayFault → Type 0
 WritesText text written (Ok done) = written ≡ text
 WritesText text written (Err fault.NoMemory) = written ≡ []

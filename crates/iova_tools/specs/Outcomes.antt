@@ -12,8 +12,8 @@ abbrev pub domain_text : ℕ → State → List ℕ
 domain_text number state =
     (numbers_line (codes "domain") (number ∷ []) ++ 10 ∷ []) ++ report_text state
 
--- of the text that is to be printed, this is; refused memory, nothing, and some first bytes where a
--- write fails
+-- how much is printed of a text: all of it, nothing where memory is refused, and some first bytes
+-- where a write fails
 abbrev pub IsPrinted : List ℕ → List ℕ → Result ⊤ Fault → Type 0
 IsPrinted text written (Ok done) = written ≡ text
 IsPrinted text written (Err fault.NoMemory) = written ≡ []

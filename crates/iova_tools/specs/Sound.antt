@@ -51,7 +51,7 @@ pub record IsAskedBy (plan : CheckPlan) (windows : List Frames) (source : Source
   pub last : source.asked.last ≡ plan.last
   pub kept_out : source.asked.windows.now ≡ windows
 
--- such a text was read to its end, and is sound
+-- a text was read to its end as the plan asks for it, and is sound
 pub record ChecksSound (plan : CheckPlan) (windows : List Frames)
     (input left : Option (List ℕ)) : Type 0 where
   pub source : Source

@@ -54,7 +54,7 @@ pub record BeginsWithLines (bytes : List ℕ) (lines : Option Trace) (rest : Lis
 abbrev pub IsOther : Option Trace → List ℕ → Type 0
 IsOther lines rest = BeginsOdd (λ line. ¬ MayFollow lines line) rest
 
--- such a line, or one that is too long
+-- the rest begins with a line that may not stand there, or with one that is too long
 abbrev pub IsBad : Option Trace → List ℕ → Type 0
 IsBad lines rest = IsOther lines rest ⊎ IsOverlong rest
 
