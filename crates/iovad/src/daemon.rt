@@ -1,7 +1,7 @@
 //! A daemon: the sessions of a plan, served on a socket, and the report of what they leave.
 ghost use Rattle.std.specs.Prelude.{◌≡◌, ◌<◌, ◌≤◌, ◌+◌, ◌*◌, true, [], None, Err, IfErr, IfOk, map, length, vec_len, vec_capacity};
 ghost use Rattle.iova_range.specs.declared.limits.TheConstants.{SEAT_PARTS};
-ghost use Rattle.iova_keep.specs.Views.{AreBlanksOf, KeepsPlace, seats_in_turn};
+ghost use Rattle.iova_keep.specs.Views.{AreBlanksOf, seats_in_turn};
 ghost use Rattle.iova_lock.specs.Books.{tally_parts};
 ghost use Rattle.iova_command.specs.declared.plan.Plan.{Plan};
 ghost use Rattle.iova_planned.specs.PlannedDomains.{AreNewSeats, seat_count};
@@ -20,7 +20,7 @@ use iova_files::descriptors::sessions_within;
 use iova_files::listening::{Access, is_free, listen};
 use iova_files::notices::{CountedConsole, Notices};
 use iova_files::record_file::{RecordFile, is_in_use};
-use iova_files::sharing::{share_all, sinks_in_turn};
+use iova_files::sharing::sinks_in_turn;
 use iova_files::sinks::{DaemonSink, SinkPlace, open_sink};
 use iova_files::standard::path_of_input;
 use iova_keep::keep::Keep;
@@ -125,7 +125,7 @@ where
 {
     let bounds = bounds_of(plan)?;
     let windows = windows_of(rt, plan, bounds)?;
-    let signals = Signals::new(processors(rt), seconds_since_1970(rt));
+    let signals = new_signals(rt);
     let warns = plan.log_level != LevelFilter::Error;
     let name = said.text("name").unwrap_or("");
     let console = CountedConsole::new(rt, &signals, warns, name);
@@ -149,7 +149,7 @@ where
     };
     let mut files = StartFiles::new(&run);
     let rest = match open_all(&run, &mut files, &shared) {
-        Ok((sinks, accept)) => serve_opened(&run, &mut files, shared, posts, sinks, accept),
+        Ok((sinks, accept)) => serve_opened(&run, &mut files, shared, posts, &sinks, &accept),
         Err(why) => Err(why),
     };
     match rest {
@@ -168,12 +168,12 @@ fn tell_start<R: Host>(notices: &Notices<'_, R>, said: &Said<'_>, windows: &Wind
     info!(notices; target: "", "iovad {version} starts: {words}");
 }
 
-/// How many processors the daemon's threads have; 0 where the system doesn't say.
-fn processors<R: Host>(rt: &R) -> u64 {
-    match available_parallelism(rt) {
-        Ok(count) => count.get() as u64,
-        Err(_) => 0,
-    }
+/// Signals of a daemon that starts now. The system may not say how many processors its threads
+/// have, and which time it is: 0 then.
+fn new_signals<R: Host>(rt: &R) -> Signals {
+    let processors = available_parallelism(rt).map_or(0, |count| count.get() as u64);
+    let started = rt.since_1970().map_or(0, |time| time.as_secs());
+    Signals::new(processors, started)
 }
 
 /// The level of the notices that are counted: warnings and graver ones at least, since those of
@@ -182,14 +182,6 @@ fn counted_level(plan: &Plan<'_>) -> LevelFilter {
     match plan.log_level {
         LevelFilter::Error => LevelFilter::Warn,
         level => level,
-    }
-}
-
-/// The time now, in seconds since the beginning of 1970; 0 where the system doesn't say.
-fn seconds_since_1970<R: Host>(rt: &R) -> u64 {
-    match rt.since_1970() {
-        Ok(time) => time.as_secs(),
-        Err(_) => 0,
     }
 }
 
@@ -236,8 +228,8 @@ fn has_peer(plan: &Plan<'_>) -> bool {
 /// The files that a daemon has made, which a start that is refused removes, and the record's file.
 #[derive(Drop)]
 struct StartFiles<'p> {
-    /// Nothing stood at the path of the file that takes records.
-    is_sink_new: bool,
+    /// The path of the file that takes records, where nothing stood there.
+    new_sink: Option<&'p str>,
     record: Option<RecordFile<'p>>,
     control: Option<MadeFile<'p>>,
 }
@@ -245,12 +237,12 @@ struct StartFiles<'p> {
 impl<'p> StartFiles<'p> {
     /// None is made yet.
     fn new<R: Host>(run: &Running<'_, 'p, R>) -> StartFiles<'p> {
-        let is_sink_new = match run.plan.sink {
-            SinkPath::Peer(_) => false,
-            SinkPath::File(path) => MadeFile::at(run.rt, path).is_none(),
+        let new_sink = match run.plan.sink {
+            SinkPath::File(path) if MadeFile::at(run.rt, path).is_none() => Some(path),
+            _ => None,
         };
         StartFiles {
-            is_sink_new,
+            new_sink,
             record: None,
             control: None,
         }
@@ -262,8 +254,7 @@ impl<'p> StartFiles<'p> {
         if let Some(record) = &self.record {
             record.undo(run.rt);
         }
-        if self.is_sink_new
-            && let SinkPath::File(path) = run.plan.sink
+        if let Some(path) = self.new_sink
             && let Some(made) = MadeFile::at(run.rt, path)
         {
             made.remove(run.rt);
@@ -319,7 +310,7 @@ fn open_all<'a, 'p, R: Host, B: Names>(
 ) -> Result<(Vec<SharedSink<OpenedSink<'a, R>>>, DaemonAccept<'a, R>), StartFault>
     ensures { IfOk result (λ o. 2 ≤ vec_len o.0) }
 {
-    let sinks = open_sinks_first(run)?;
+    let sinks = open_sinks(run)?;
     files.record = open_record(run)?;
     files.control = listen_for_control(run)?;
     let accept = listen_for_sessions(run)?;
@@ -332,28 +323,8 @@ fn open_all<'a, 'p, R: Host, B: Names>(
     }
 }
 
-/// Serves with these. A function of its own: that its sinks may go to threads is found where
-/// nothing else is known.
-fn serve_opened<'a, 'p, R, B>(
-    run: &Running<'a, 'p, R>,
-    files: &mut StartFiles<'p>,
-    shared: Shared<&'a R, B>,
-    posts: Vec<Post<B>>,
-    sinks: Vec<SharedSink<OpenedSink<'a, R>>>,
-    accept: DaemonAccept<'a, R>,
-) -> Result<Rest, StartFault>
-where
-    R: Host,
-    B: Names + Send + Sync,
-    requires posts { AreNewSeats shared (map (λ p. p.seat) posts.items) }
-    requires parts { B.ledgers.good.parts ≡ SEAT_PARTS * shared.seats }
-    requires sinks { 2 ≤ vec_len sinks }
-{
-    serve_at_posts(run, files, shared, posts, &sinks, &accept)
-}
-
 /// Serves the plan's sessions, each post with the sink of its worker, and ends the service.
-fn serve_at_posts<'a, 'p, R, B, D>(
+fn serve_opened<'a, 'p, R, B, D>(
     run: &Running<'a, 'p, R>,
     files: &mut StartFiles<'p>,
     shared: Shared<&'a R, B>,
@@ -551,10 +522,11 @@ fn service_of<'a, R: Host>(run: &Running<'a, '_, R>) -> Service<'a, R, Notices<'
     }
 }
 
-/// A sink for each worker, and one for the flusher, where nothing stands in their way. A peer is
-/// not disturbed where the socket's place is taken; else that place is looked at behind the sinks.
-/// Refused by `SocketFault`, `NoMemory` and `CannotOpenSink`.
-fn open_sinks_first<'a, R: Host>(
+/// A sink for each worker, and one for the flusher, where nothing stands in their way. The first
+/// one has sent its peer a `reset` of the domain. A peer is not disturbed where the socket's place
+/// is taken; else that place is looked at behind the sinks. Refused by `SocketFault`, `NoMemory`
+/// and `CannotOpenSink`.
+fn open_sinks<'a, R: Host>(
     run: &Running<'a, '_, R>,
 ) -> Result<Vec<SharedSink<OpenedSink<'a, R>>>, StartFault>
     ensures { IfOk result (λ v. 2 ≤ vec_len v) }
@@ -568,27 +540,7 @@ fn open_sinks_first<'a, R: Host>(
     {
         return Err(StartFault::CannotOpenSink);
     }
-    let sinks = open_sinks(run, run.plan.workers as usize + 1)?;
-    if !has_peer {
-        warn!(run.notices; target: "", "records only: no device answers");
-        if !is_free(run.rt, run.notices, run.plan.socket) {
-            return Err(StartFault::SocketFault);
-        }
-    }
-    match share_all(run.rt.alloc(), sinks) {
-        Some(shared) => Ok(shared),
-        None => Err(StartFault::NoMemory),
-    }
-}
-
-/// So many sinks. The first one has sent its peer a `reset` of the domain. Refused by
-/// `NoMemory` and by `CannotOpenSink`.
-fn open_sinks<'a, R: Host>(
-    run: &Running<'a, '_, R>,
-    count: usize,
-) -> Result<Vec<OpenedSink<'a, R>>, StartFault>
-    ensures { IfOk result (λ v. vec_len v ≡ count) }
-{
+    let count = run.plan.workers as usize + 1;
     let Ok(mut sinks) = Vec::with_capacity(run.rt.alloc(), count) else {
         return Err(StartFault::NoMemory);
     };
@@ -597,9 +549,13 @@ fn open_sinks<'a, R: Host>(
         let Some(sink) = open_one(run, SinkPlace::of(run.plan), reset) else {
             return Err(StartFault::CannotOpenSink);
         };
-        let Ok(()) = sinks.push(sink) else {
-            unreachable!();
-        };
+        sinks.push_reserved(SharedSink::new(sink));
+    }
+    if !has_peer {
+        warn!(run.notices; target: "", "records only: no device answers");
+        if !is_free(run.rt, run.notices, run.plan.socket) {
+            return Err(StartFault::SocketFault);
+        }
     }
     Ok(sinks)
 }
@@ -697,10 +653,8 @@ fn windows_of<'a, R: Host>(rt: &R, plan: &Plan<'a>, bounds: Bounds) -> Result<Wi
     let Some(path) = plan.regions else {
         return Ok(windows);
     };
-    match add_regions(rt, path, Counted::All, bounds, &mut windows) {
-        Ok(()) => Ok(windows),
-        Err(fault) => Err(fault),
-    }
+    add_regions(rt, path, Counted::All, bounds, &mut windows)?;
+    Ok(windows)
 }
 
 /// A sink for the last round, where one is wanted and can be opened: where clients wait, and at a
@@ -711,15 +665,10 @@ fn last_wanted<'a, R: Host, B: Names>(
     posts: &[Post<B>],
 ) -> Option<OpenedSink<'a, R>> {
     let is_queued = run.signals.is_stopping() && shared.stat().ring > 0;
-    if !is_queued && !is_waited(posts) {
+    if !is_queued && posts.iter().all(|post| post.waiting.is_empty()) {
         return None;
     }
     open_one(run, SinkPlace::of(run.plan).without_wait(), None)
-}
-
-/// Whether a client waits at one of the posts.
-fn is_waited<B: Names>(posts: &[Post<B>]) -> bool {
-    posts.iter().any(|post| !post.waiting.is_empty())
 }
 
 /// Ends the service of all posts, where there is a sink for it.
@@ -737,38 +686,24 @@ where
         (last_calls E.calls last.old) (last_calls E.calls last.new) }
 {
     let mut keeper = shared;
-    end_each(&mut keeper, posts, last, stops);
+    if let Some(sink) = last {
+        end_each(&mut keeper, posts, sink, stops);
+    }
 }
 
-/// Ends the service of each of the posts, where there is a sink for it: tries the clients that wait
-/// once more, and at a stop flushes what is in a ring.
-fn end_each<B, K, E>(keeper: &mut K, posts: &mut [Post<B>], last: &mut Option<E>, stops: bool)
+/// Ends the service of each of the posts: tries the clients that wait once more, and at a stop
+/// flushes what is in a ring.
+fn end_each<B, K, E>(keeper: &mut K, posts: &mut [Post<B>], sink: &mut E, stops: bool)
 where
     B: Names,
     K: Keep<B>,
     E: Sink,
     ensures { EndsAll (map (λ p. p.seat) posts.old) (map (λ p. p.seat) posts.new)
-        (last_calls E.calls last.old) (last_calls E.calls last.new) }
+        (E.calls sink.old) (E.calls sink.new) }
 {
     let Some((post, more)) = posts.split_first_mut() else {
         return;
     };
-    end_at(keeper, post, last, stops);
-    end_each(keeper, more, last, stops);
-}
-
-/// Ends the service of this post, where there is a sink for it and anything to do.
-fn end_at<B, K, E>(keeper: &mut K, post: &mut Post<B>, last: &mut Option<E>, stops: bool)
-where
-    B: Names,
-    K: Keep<B>,
-    E: Sink,
-    ensures { KeepsPlace post.old.seat post.new.seat (last_calls E.calls last.old)
-        (last_calls E.calls last.new) }
-{
-    if let Some(sink) = last
-        && (stops || !post.waiting.is_empty())
-    {
-        let _left = end_post(keeper, post, sink, stops);
-    }
+    let _left = end_post(keeper, post, sink, stops);
+    end_each(keeper, more, sink, stops);
 }
