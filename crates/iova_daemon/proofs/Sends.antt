@@ -6,18 +6,12 @@ use Rattle.iova_keep.specs.declared.names.Names.{Ghosts}
 use Rattle.iova_lock.specs.contracts.book.Book as books
 use Rattle.iova_lock.specs.contracts.shared.Shared as domains
 use Rattle.iova_daemon.specs.contracts.daemon_state.DaemonState as daemon_states
-use Rattle.iova_daemon.specs.contracts.worker.WorkerContext as contexts
 
--- it may be shared where all that it has may
-pub WorkerContext-sync : (R N K A T H : RattleType) → IsSync R → IsSync N → IsSync K → IsSync A
-    → IsSync T → IsSync H → IsSync (contexts.the_row R N K A T H)
-WorkerContext-sync R N K A T H r n k a t h = search (crosses, sendable) depth 20
+-- what the threads have of their daemon
+pub DaemonState-sync : IsSync daemon_states.the_row
+DaemonState-sync = search (crosses, sendable) depth 20
 
 -- a domain under its lock may be shared where its book may go to another thread
 pub Shared-sync : (Q B : RattleType) (b : Ghosts B.Denot) → IsSync Q → IsSend (books.the_row B b)
     → IsSync (domains.the_row Q B b)
 Shared-sync Q B b q book = search (crosses, sendable) depth 20
-
--- so may what the threads have of their daemon
-pub DaemonState-sync : IsSync daemon_states.the_row
-DaemonState-sync = search (crosses, sendable) depth 20

@@ -1,5 +1,5 @@
 //! What the threads of a daemon share beside its domain and the pool of its session threads.
-use crate::pool::Pool;
+use crate::worker::WorkerContext;
 use iova_links::control_task::{DaemonMetrics, MetricsSource};
 use iova_links::pause::milliseconds;
 use iova_model::step::ClientId;
@@ -11,7 +11,7 @@ use std::sync::atomic::{AtomicBool, AtomicU64, Ordering};
 use std::sync::{Mutex, Wait};
 
 /// The gate that session threads wait at until all are started, who waits, and how many session
-/// threads have ended.
+/// threads haven't ended.
 #[derive(Drop)]
 pub(crate) struct DaemonState {
     /// Held while threads are started; then whether all were, so that none accepts a link where one
@@ -21,9 +21,7 @@ pub(crate) struct DaemonState {
     trying: [AtomicBool; MAX_WORKERS as usize],
     waiting: AtomicU64,
     noted: Mutex<Vec<Noted>>,
-    threads: u64,
-    begun: AtomicU64,
-    ended: AtomicU64,
+    threads: AtomicU64,
     /// When the flusher began its last round that ended well, in milliseconds of the clock.
     round: AtomicU64,
 }
@@ -36,16 +34,14 @@ struct Noted {
 }
 
 impl DaemonState {
-    /// So many session threads, none of which has begun, and a closed gate.
+    /// So many session threads, and a closed gate.
     pub(crate) fn new(alloc: Global, threads: u64) -> DaemonState {
         DaemonState {
             gate: Mutex::new(false),
             trying: array::from_fn(|_worker| AtomicBool::new(false)),
             waiting: AtomicU64::new(0),
             noted: Mutex::new(Vec::new(alloc)),
-            threads,
-            begun: AtomicU64::new(0),
-            ended: AtomicU64::new(0),
+            threads: AtomicU64::new(threads),
             round: AtomicU64::new(0),
         }
     }
@@ -66,23 +62,28 @@ impl DaemonState {
         }
     }
 
-    /// A session thread begins: its number.
-    pub(crate) fn begin(&self) -> u64 {
-        self.begun.fetch_add(1, Ordering::SeqCst)
-    }
-
-    /// These clients of the session thread wait now, and not as many as before. Where memory is
-    /// refused it isn't noted which.
-    pub(crate) fn wait_for<R: Wait>(&self, rt: &R, thread: u64, before: u64, now: &[ClientId]) {
-        self.waiting.fetch_add(now.len() as u64, Ordering::SeqCst);
-        self.waiting.fetch_sub(before, Ordering::SeqCst);
-        let mut noted = self.noted.lock(rt);
-        note_all(&mut noted, thread, now);
+    /// These clients of the session thread wait now: gives their number, and notes them where it
+    /// isn't the one before. A session adds one client and a round of tries takes some out, so
+    /// other clients are another number. Where memory is refused it isn't noted which they are.
+    pub(crate) fn wait_for<R: Wait>(
+        &self,
+        rt: &R,
+        thread: u64,
+        before: u64,
+        clients: &[ClientId],
+    ) -> u64 {
+        let count = clients.len() as u64;
+        if count != before {
+            self.waiting.fetch_add(count, Ordering::SeqCst);
+            self.waiting.fetch_sub(before, Ordering::SeqCst);
+            note_all(&mut self.noted.lock(rt), thread, clients);
+        }
+        count
     }
 
     /// A session thread has ended.
     pub(crate) fn end(&self) {
-        self.ended.fetch_add(1, Ordering::SeqCst);
+        self.threads.fetch_sub(1, Ordering::SeqCst);
     }
 
     /// The flusher has ended a round well that it began then, in milliseconds of the clock, where
@@ -95,7 +96,7 @@ impl DaemonState {
 
     /// Whether all session threads have ended.
     pub(crate) fn have_ended(&self) -> bool {
-        self.ended.load(Ordering::SeqCst) >= self.threads
+        self.threads.load(Ordering::SeqCst) == 0
     }
 }
 
@@ -103,26 +104,15 @@ impl DaemonState {
 /// memory is refused.
 fn note_all(noted: &mut Vec<Noted>, thread: u64, clients: &[ClientId]) {
     noted.retain(|note| note.thread != thread);
-    if noted.try_reserve(clients.len()).is_err() {
-        return;
-    }
-    for client in clients {
-        let _ = noted.push(Noted {
-            thread,
-            client: *client,
-        });
+    if noted.try_reserve(clients.len()).is_ok() {
+        for client in clients {
+            let client = *client;
+            let _ = noted.push(Noted { thread, client });
+        }
     }
 }
 
-/// The metrics of a daemon that serves.
-#[derive(Drop)]
-pub(crate) struct LiveMetrics<'a, R, L> {
-    pub rt: &'a R,
-    pub daemon_state: &'a DaemonState,
-    pub pool: &'a Pool<L>,
-}
-
-impl<'a, R: Wait + Clock, L: Drop> MetricsSource for LiveMetrics<'a, R, L> {
+impl<'e, R: Wait + Clock, N, K, L: Drop, A> MetricsSource for WorkerContext<'e, R, N, K, L, A> {
     fn metrics(&self) -> DaemonMetrics {
         let round = self.daemon_state.round.load(Ordering::SeqCst);
         let now = milliseconds(self.rt).unwrap_or(round);

@@ -2,7 +2,6 @@
 ghost use Rattle.iova_keep.specs.Views.{KeepsTally};
 
 use crate::daemon_state::DaemonState;
-use crate::threads::SideTask;
 use iova_keep::calls::{flush, timeout};
 use iova_keep::keep::Keep;
 use iova_keep::names::Names;
@@ -44,7 +43,7 @@ pub(crate) struct Flusher<'e, R, N, K, B: Names, D, P> {
     pub rest: u64,
 }
 
-impl<'e, R, N, B, K, D, P> SideTask for Flusher<'e, R, N, K, B, D, P>
+impl<'e, R, N, K, B, D, P> Flusher<'e, R, N, K, B, D, P>
 where
     R: Wait + Clock,
     N: Log,
@@ -53,15 +52,14 @@ where
     D: Sink,
     P: Pause,
 {
-    ghost tally = { λ f. f.tally };
-
-    ghost calls = { λ f. D.calls f.sink };
-
     /// Makes a round after each pause, until a pause says stop or all workers have ended. A round
     /// that is refused is a notice, and behind each whose sink failed the pause is twice as long,
     /// up to a second. Where a round freed many entries or a flush was made ahead before it, it
     /// flushes ahead in place of the next pause.
-    fn go_on(&mut self) {
+    pub(crate) fn go_on(&mut self)
+        ensures { KeepsTally self.old.tally self.new.tally (D.calls self.old.sink)
+            (D.calls self.new.sink) }
+    {
         self.daemon_state.end_round(milliseconds(self.rt));
         for _ in self.rt.forever() {
             if !rests(&mut self.pause, self.daemon_state, self.rest) {
@@ -86,16 +84,7 @@ where
         }
         unreachable!()
     }
-}
 
-impl<'e, R, N, K, B, D, P> Flusher<'e, R, N, K, B, D, P>
-where
-    N: Log,
-    B: Names,
-    K: Keep<B>,
-    D: Sink,
-    P: Pause,
-{
     /// Flushes before the next round is due, where so much waits in rings that workers would soon
     /// find them full: so these needn't flush themselves, and wait for the sink. What was flushed
     /// they drain at their next unmap; so rings in which as much waits as at the last flush made

@@ -1,23 +1,25 @@
 //! A daemon's threads: a session thread for each post, and a flusher beside them.
 #![tactic(auto)]
 
-ghost use Rattle.std.specs.Prelude.{◌≡◌, ◌+◌, ◌≤◌, Ok, Err, IfOk, IfErr, map, vec_len, slice_get};
+ghost use Rattle.std.specs.Prelude.{◌≡◌, ◌+◌, ◌≤◌, [], Ok, Err, IfOk, IfErr, map, vec_len, vec_capacity, slice_get};
 ghost use Rattle.std.specs.Option.{ForSome};
+ghost use Rattle.iova_keep.specs.Views.{KeepsPlace, KeepsTally};
 ghost use Rattle.iova_lock.specs.Books.{tally_parts};
-ghost use Rattle.iova_daemon.specs.Serving.{CountsWithin, CountsWithinSome, IsServeRefusal};
+ghost use Rattle.iova_daemon.specs.Serving.{AreKept, CountsWithin, CountsWithinSome, IsServeRefusal};
 
-mod crossing;
 mod daemon_state;
 mod flusher;
 mod pool;
 mod threads;
 mod worker;
 
-use crate::crossing::{domains_are_sync, pools_are_sync, posts_are_send};
 use crate::daemon_state::DaemonState;
+use crate::flusher::{FLUSH_AHEAD, Flusher};
 use crate::pool::Pool;
+use crate::threads::{KeepsBoth, domains_are_sync, pools_are_sync, posts_are_send};
 use crate::worker::WorkerContext;
-use flusher::{FLUSH_AHEAD, Flusher};
+use iova_keep::keep::Keep;
+use iova_keep::look::Look;
 use iova_keep::names::Names;
 use iova_keep::seat::Tally;
 use iova_links::accept::Accept;
@@ -30,12 +32,13 @@ use iova_session::link::Link;
 use iova_session::post::Post;
 use iova_session::session_limits::SessionLimits;
 use iova_sink::sink::Sink;
-use log::Log;
+use log::{Log, error};
 use std::alloc::Global;
 use std::rt::Clock;
+use std::snapshot::Snapshot;
 use std::sync::Wait;
-use std::thread::Threads;
-use threads::{Joined, run_all};
+use std::thread::{JoinHandle, PromisedHandle, Scope, Threads};
+use std::{io, thread};
 
 /// What serving leaves.
 #[derive(Drop)]
@@ -210,11 +213,10 @@ where
         + r.tally.parts ≡ tally_parts (map (λ p. p.seat) posts.items)) }
     ensures refusal { IfErr result IsServeRefusal }
 {
-    // for the proof: what threads may share, and what may go to them
+    // for the proof: threads may share the domain
     domains_are_sync::<Q, B>();
-    pools_are_sync::<L>();
-    posts_are_send::<B>();
-    let Some(pool) = Pool::<L>::new(service.alloc, service.serving, posts.len()) else {
+    let (rt, alloc, notices) = (service.rt, service.alloc, service.notices);
+    let Some(pool) = Pool::<L>::new(alloc, service.serving, posts.len()) else {
         return Err(Refusal::NoMemory);
     };
     let mut posts = posts;
@@ -223,19 +225,17 @@ where
         unreachable!()
     };
     let tally = split_first(&mut posts);
-    let (rt, notices) = (service.rt, service.notices);
-    let daemon_state = DaemonState::new(service.alloc, posts.len() as u64);
+    let sink = NotingSink::new(sink, notices);
     let context = WorkerContext {
         rt,
-        alloc: service.alloc,
+        alloc,
         notices,
         serving: service.serving,
         keeper: shared,
         accept,
-        daemon_state: &daemon_state,
-        pool: &pool,
+        daemon_state: DaemonState::new(alloc, posts.len() as u64),
+        pool,
     };
-    let sink = NotingSink::new(sink, notices);
     let flusher = Flusher {
         rt,
         notices,
@@ -243,35 +243,164 @@ where
         tally,
         sink,
         pause,
-        daemon_state: &daemon_state,
+        daemon_state: &context.daemon_state,
         is_busy: false,
         mark: FLUSH_AHEAD,
         rest: 0,
     };
-    let joined = run_all::<
-        R,
-        WorkerContext<&R, &N, &Shared<Q, B>, &A, &DaemonState, &Pool<L>>,
-        Post<B>,
-        D,
-        Flusher<'_, R, N, &Shared<Q, B>, B, NotingSink<'_, D, N>, P>,
-    >(rt, &context, posts, sinks, flusher);
-    match joined {
-        Ok(
-            Joined {
-                places,
-                sinks,
-                beside,
-            },
-        ) => {
-            let Flusher { tally, sink, .. } = beside;
+    run_all(&context, posts, sinks, flusher)
+}
+
+/// Starts a session thread for each post, with its sink, and the control task's, where one is
+/// wanted; flushes beside them, and joins them.
+#[tactic(auto, using(crate::proofs::Places::whole_front))]
+fn run_all<R, N, B, K, L, A, D, P>(
+    context: &WorkerContext<'_, R, N, K, L, A>,
+    posts: Vec<Post<B>>,
+    sinks: Vec<D>,
+    flusher: Flusher<'_, R, N, K, B, NotingSink<'_, D, N>, P>,
+) -> Result<ServedBy<B, D>, Refusal>
+where
+    R: Threads + Wait + Clock + Sync,
+    N: Log + Sync,
+    B: Names + Send + Sync,
+    K: Keep<B> + Look + Copy + Sync,
+    L: Link + Send + Drop,
+    A: Accept<L> + ControlTask + Sync,
+    D: Sink + Send + Drop,
+    P: Pause + Drop,
+    requires { vec_len posts ≡ vec_len sinks }
+    ensures kept { IfOk result (λ r. AreKept (map (λ p. p.seat) posts.items)
+        (map D.calls sinks.items) (map (λ p. p.seat) r.posts.items) (map D.calls r.sinks.items)
+        × KeepsTally flusher.entry.tally r.tally (D.calls flusher.entry.sink.sink)
+        (D.calls r.sink)) }
+    ensures refusal { IfErr result IsServeRefusal }
+{
+    // for the proof: what threads may share, and what may go to them
+    pools_are_sync::<L>();
+    posts_are_send::<B>();
+    thread::scope(
+        thread::scope_env(),
+        context.rt,
+        move |scope| -> Result<ServedBy<B, D>, Refusal>
+            requires { vec_len posts ≡ vec_len sinks }
+            ensures kept { IfOk result (λ r. AreKept (map (λ p. p.seat) posts.items)
+                (map D.calls sinks.items) (map (λ p. p.seat) r.posts.items)
+                (map D.calls r.sinks.items)
+                × KeepsTally flusher.entry.tally r.tally (D.calls flusher.entry.sink.sink)
+                (D.calls r.sink)) }
+            ensures refusal { IfErr result IsServeRefusal }
+        {
+            let mut flusher = flusher;
+            let (rt, alloc, count) = (context.rt, context.alloc, posts.len());
+            // so joining needs no memory
+            let Ok(mut back) = Vec::with_capacity(alloc, count) else {
+                return Err(Refusal::NoMemory);
+            };
+            let Ok(mut given) = Vec::with_capacity(alloc, count) else {
+                return Err(Refusal::NoMemory);
+            };
+            let Ok(mut started) = Vec::with_capacity(alloc, count) else {
+                return Err(Refusal::NoMemory);
+            };
+            // started threads wait for the gate until all are started
+            let mut gate = context.daemon_state.gate.lock(rt);
+            let mut sinks = sinks.into_iter();
+            for place in posts {
+                let Some(sink) = sinks.next() else {
+                    unreachable!()
+                };
+                let (thread, worker) = (started.len() as u64, place.seat.worker());
+                let promise = KeepsBoth {
+                    post: Snapshot::of(&place),
+                    sink: Snapshot::of(&sink),
+                };
+                let work = move || -> (Post<B>, D)
+                    ensures { KeepsPlace place.seat result.0.seat (D.calls sink)
+                        (D.calls result.1) }
+                { context.work(thread, place, sink) };
+                match scope.spawn_with(promise, work) {
+                    Ok(handle) => started.push_reserved(handle),
+                    Err(error) => {
+                        let error = io::Error::from(error);
+                        error!(context.notices; target: "", "thread {worker}: {error}");
+                        drop(gate);
+                        join_all(rt, started, &mut back, &mut given);
+                        return Err(Refusal::LinkFault);
+                    }
+                }
+            }
+            let Some(control_task) = start_control_task(scope, context) else {
+                drop(gate);
+                join_all(rt, started, &mut back, &mut given);
+                return Err(Refusal::LinkFault);
+            };
+            *gate = true;
+            drop(gate);
+            flusher.go_on();
+            join_all(rt, started, &mut back, &mut given);
+            if let Some(control_task) = control_task {
+                control_task.join(rt);
+            }
+            let Flusher { tally, sink, .. } = flusher;
             Ok(ServedBy {
-                posts: places,
-                sinks,
+                posts: back,
+                sinks: given,
                 sink: sink.into_sink(),
                 tally,
             })
+        },
+    )
+}
+
+/// Starts the control task, where one is wanted. None where its thread can't be started.
+fn start_control_task<'s, E, R, N, K, L, A>(
+    scope: &Scope<'s, E>,
+    context: &'s WorkerContext<'s, R, N, K, L, A>,
+) -> Option<Option<JoinHandle<()>>>
+where
+    E: 's,
+    R: Wait + Clock + Sync + 's,
+    N: Log + Sync + 's,
+    K: Look + Sync + 's,
+    L: Link + Send + Drop + 's,
+    A: Accept<L> + ControlTask + Sync + 's,
+{
+    // for the proof: that it may be shared
+    pools_are_sync::<L>();
+    if !context.accept.is_wanted() {
+        return Some(None);
+    }
+    match scope.spawn(move || context.run_control_task()) {
+        Ok(handle) => Some(Some(handle)),
+        Err(error) => {
+            let error = io::Error::from(error);
+            error!(context.notices; target: "", "control task: {error}");
+            None
         }
-        Err(refusal) => Err(refusal),
+    }
+}
+
+/// Joins each thread, and puts its post and its sink after those that are there.
+#[tactic(auto, using(crate::proofs::Places::more_kept, crate::proofs::Places::none_kept))]
+fn join_all<R: Threads, B: Names + Send, D: Sink + Send + Drop>(
+    rt: &R,
+    started: Vec<PromisedHandle<(Post<B>, D), KeepsBoth<B, D>>>,
+    back: &mut Vec<Post<B>>,
+    given: &mut Vec<D>,
+)
+    requires empty { back.old.items ≡ [] }
+    requires none { given.old.items ≡ [] }
+    requires room { vec_len started ≤ vec_capacity back.old }
+    requires sinks { vec_len started ≤ vec_capacity given.old }
+    ensures { AreKept (map (λ h. h.promise.post.value.seat) started.items)
+        (map (λ h. D.calls h.promise.sink.value) started.items)
+        (map (λ p. p.seat) back.new.items) (map D.calls given.new.items) }
+{
+    for handle in started {
+        let (post, sink) = handle.join(rt);
+        back.push_reserved(post);
+        given.push_reserved(sink);
     }
 }
 

@@ -115,30 +115,18 @@ impl<L: Drop> Pool<L> {
         }
     }
 
-    /// The leader, a post of this worker, has accepted a link: it gives it back where it serves it
-    /// itself, and else has handed it over. Then it leads no longer.
-    pub(crate) fn assign<R: Wait>(
-        &self,
-        rt: &R,
-        worker: u64,
-        link: L,
-        rests: bool,
-    ) -> Option<Accepted<L>> {
+    /// The leader, a post of this worker, has accepted a link, and leads no longer: it serves it
+    /// itself, or has handed it over.
+    pub(crate) fn assign<R: Wait>(&self, rt: &R, worker: u64, link: L, rests: bool) -> Turn<L> {
         let at = place_of(worker);
-        let assigned = self.state.lock(rt).assign(at, link, rests);
-        match assigned {
-            Ok(other) => {
-                self.ring(other);
-                if rests {
-                    self.wake(rt, at, true);
-                }
-                None
-            }
-            Err(accepted) => {
-                self.wake(rt, at, true);
-                Some(accepted)
-            }
+        let (handed_to, turn) = self.state.lock(rt).assign(at, link, rests);
+        if let Some(other) = handed_to {
+            self.ring(other);
         }
+        if rests || handed_to.is_none() {
+            self.wake(rt, at, true);
+        }
+        turn
     }
 
     /// The leader, a post of this worker, got no link, and leads no more. The session's number may
@@ -154,7 +142,12 @@ impl<L: Drop> Pool<L> {
     /// A session of this worker has ended, at a post that may rest now.
     pub(crate) fn leave<R: Wait>(&self, rt: &R, worker: u64, rests: bool) {
         let at = place_of(worker);
-        self.state.lock(rt).leave(at);
+        let mut state = self.state.lock(rt);
+        state.served = state.served.saturating_sub(1);
+        if let Some(load) = state.loads.get_mut(at) {
+            load.sessions = load.sessions.saturating_sub(1);
+        }
+        drop(state);
         self.wake(rt, at, rests);
     }
 
@@ -188,7 +181,9 @@ impl<L: Drop> Pool<L> {
     /// would go to. Where none is free, one that rests, if whoever asks for it is away for longer:
     /// at a session, or at a try of its clients.
     fn wake<R: Wait>(&self, rt: &R, at: usize, is_away: bool) {
-        let (is_wanted, next) = self.state.lock(rt).next_leader(at);
+        let state = self.state.lock(rt);
+        let (is_wanted, next) = (state.is_wanted(), fewest(&state.loads, at));
+        drop(state);
         match next {
             Some(next) if is_wanted => self.ring(next),
             None if is_wanted && is_away => self.rest.notify_one(),
@@ -271,47 +266,29 @@ impl<L: Drop> State<L> {
 
     /// The oldest link that was handed over to the worker at this place.
     fn take(&mut self, at: usize) -> Option<Accepted<L>> {
-        for place in 0..self.handed.len() {
-            if self.handed[place].0 == at {
-                return Some(self.handed.remove(place).1);
-            }
-        }
-        None
+        let place = self.handed.iter().position(|handed| handed.0 == at)?;
+        Some(self.handed.remove(place).1)
     }
 
-    /// The leader got a link: `Ok` has the place of the worker that it was handed over to. The
-    /// leader serves it itself where no post is free, where it is free itself and its worker is the
-    /// one, and where there is no room.
-    fn assign(&mut self, at: usize, link: L, rests: bool) -> Result<usize, Accepted<L>> {
+    /// The leader got a link: gives the place of the worker that it was handed over to, if it was,
+    /// and what the leader is to do. The leader serves it itself where no post is free, where it is
+    /// free itself and its worker is the one, and where there is no room.
+    fn assign(&mut self, at: usize, link: L, rests: bool) -> (Option<usize>, Turn<L>) {
         let (session, other) = (self.accepted, fewest(&self.loads, at));
         self.give_way(at, true, rests);
         match other {
             Some(other) if (rests || other != at) && self.handed.len() < self.handed.capacity() => {
-                let is_full = self.begin(other);
-                let accepted = Accepted {
-                    link,
-                    session,
-                    is_full,
-                };
-                let Ok(()) = self.handed.push((other, accepted)) else {
-                    unreachable!()
-                };
+                let accepted = self.begin(other, link, session);
+                self.handed.push_reserved((other, accepted));
                 self.go(other, false);
-                Ok(other)
+                (Some(other), Turn::Again)
             }
-            _ => {
-                let is_full = self.begin(at);
-                Err(Accepted {
-                    link,
-                    session,
-                    is_full,
-                })
-            }
+            _ => (None, Turn::Serve(self.begin(at, link, session))),
         }
     }
 
-    /// A session of the worker at this place begins. Whether it takes the last place.
-    fn begin(&mut self, at: usize) -> bool
+    /// A session of the worker at this place begins, over this link.
+    fn begin(&mut self, at: usize, link: L, session: u64) -> Accepted<L>
         ensures { self.new.handed ≡ self.old.handed }
     {
         self.served = self.served.saturating_add(1);
@@ -322,7 +299,11 @@ impl<L: Drop> State<L> {
         if is_full {
             self.full = self.full.wrapping_add(1);
         }
-        is_full
+        Accepted {
+            link,
+            session,
+            is_full,
+        }
     }
 
     /// The leader leads no more, and goes. Its session's number may be used up.
@@ -332,19 +313,5 @@ impl<L: Drop> State<L> {
             self.accepted = self.accepted.wrapping_add(1);
         }
         self.go(at, rests);
-    }
-
-    /// A session of the worker at this place has ended.
-    fn leave(&mut self, at: usize) {
-        self.served = self.served.saturating_sub(1);
-        if let Some(load) = self.loads.get_mut(at) {
-            load.sessions = load.sessions.saturating_sub(1);
-        }
-    }
-
-    /// Whether a leader is wanted, and the place of the worker whose free post is to be it, where
-    /// there is one.
-    fn next_leader(&self, at: usize) -> (bool, Option<usize>) {
-        (self.is_wanted(), fewest(&self.loads, at))
     }
 }

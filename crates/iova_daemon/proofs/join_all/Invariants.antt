@@ -1,13 +1,13 @@
 use Rattle.std.proofs.Common.{◌≡◌, ◌+◌, ◌≤◌, map, vec_len, vec_capacity}
 use Rattle.std.specs.Vec.Iter.{into_iter_len}
 use Rattle.iova_daemon.specs.Serving.{AreKept}
-use Rattle.iova_daemon.proofs.threads.join_all.Given as goal
+use Rattle.iova_daemon.proofs.join_all.Given as goal
 
 abbrev pub invariant-loop-handle : goal.invariant-loop-handle
 invariant-loop-handle g l =
-    AreKept (map (λ h. g.P.WorkerPlace.seat h.promise.place.value) l.yielded)
+    AreKept (map (λ h. h.promise.post.value.seat) l.yielded)
     (map (λ h. g.D.Sink.calls h.promise.sink.value) l.yielded)
-    (map g.P.WorkerPlace.seat l.back.items) (map g.D.Sink.calls l.given.items)
+    (map (λ p. p.seat) l.back.items) (map g.D.Sink.calls l.given.items)
     × (vec_len l.back + into_iter_len l.handle-iterator ≡ vec_len l.fn.started)
     × (vec_len l.given + into_iter_len l.handle-iterator ≡ vec_len l.fn.started)
     × (vec_len l.fn.started ≤ vec_capacity l.back) × (vec_len l.fn.started ≤ vec_capacity l.given)

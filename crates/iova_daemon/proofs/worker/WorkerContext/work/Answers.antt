@@ -1,7 +1,7 @@
 use Rattle.std.proofs.Common.{◌∙◌, refl}
 use Rattle.iova_daemon.specs.SessionThreads.{nothing}
 use Rattle.iova_daemon.proofs.SessionThreads.{keeps_same, keeps_more, then_tried, then_served}
-use Rattle.iova_daemon.proofs.worker.WorkerContextRefRefRefRefDaemonStateRefPoolWorkPost.work.Goals as goal
+use Rattle.iova_daemon.proofs.worker.WorkerContext.work.Goals as goal
 
 pub turns-init : goal.turns-init
 turns-init g c = record { place = rw c.new-sink.ensures.sink (keeps_same _ _); same = refl; turns = rw c.new-sink.ensures.sink (nothing _) }
@@ -11,11 +11,28 @@ pub turns-preserved-in-Serve : goal.turns-preserved-in-Serve
 turns-preserved-in-Serve g c =
     let was = c.turns.invariant in
     let tried = c.try_again.ensures in
-    let served = c.serve_accepted-noted.ensures in
+    let served = c.run_session_within-ended.ensures in
+    let place = rw c.begin_session.ensures at served.place in
+    let session = rw c.begin_session.ensures at served.session in
     record {
-      place = keeps_more _ _ _ _ _ _ was.place (keeps_more _ _ _ _ _ _ tried.place served.place);
+      place = keeps_more _ _ _ _ _ _ was.place (keeps_more _ _ _ _ _ _ tried.place place);
       same = served.same ∙ tried.same ∙ was.same;
-      turns = then_served _ _ _ _ _ _ _ _ _ _ (then_tried _ _ _ _ _ _ _ _ _ was.turns was.same tried.tries) (tried.same ∙ was.same) served.session;
+      turns = then_served _ _ _ _ _ _ _ _ _ _ (then_tried _ _ _ _ _ _ _ _ _ was.turns was.same tried.tries) (tried.same ∙ was.same) (
+        c.run_session_within-ended.new.link,
+        c.run_session_within-ended.result,
+        session.0,
+        session.1,
+        session.2,
+        session.3,
+        session.4,
+        session.5,
+        session.6,
+        session.7,
+        session.8,
+        session.9,
+        session.10,
+        session.11,
+      );
     }
 
 -- the clients that wait were tried, and nothing else was done

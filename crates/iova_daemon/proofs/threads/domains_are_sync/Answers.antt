@@ -1,6 +1,6 @@
 use denote.Param.Send.{sendable}
 use Rattle.iova_daemon.proofs.Sends.{Shared-sync}
-use Rattle.iova_daemon.proofs.crossing.domains_are_sync.Goals as goal
+use Rattle.iova_daemon.proofs.threads.domains_are_sync.Goals as goal
 
 -- its runtime may be shared, and its book may go to another thread
 pub is_sync-requires-sync-T : goal.is_sync-requires-sync-T

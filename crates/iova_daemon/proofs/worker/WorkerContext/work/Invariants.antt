@@ -2,7 +2,7 @@ use Rattle.std.proofs.Common.{◌≡◌}
 use Rattle.iova_keep.specs.Views.{KeepsPlace}
 use Rattle.iova_session.specs.OneByOne.{between}
 use Rattle.iova_daemon.specs.SessionThreads.{ServesOnThread}
-use Rattle.iova_daemon.proofs.worker.WorkerContextRefRefRefRefDaemonStateRefPoolWorkPost.work.Given as goal
+use Rattle.iova_daemon.proofs.worker.WorkerContext.work.Given as goal
 
 abbrev pub invariant-turns : goal.invariant-turns
 invariant-turns g l = record {

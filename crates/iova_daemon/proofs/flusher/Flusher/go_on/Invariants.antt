@@ -1,5 +1,5 @@
 use Rattle.iova_keep.specs.Views.{KeepsTally}
-use Rattle.iova_daemon.proofs.flusher.FlusherSideTask.go_on.Given as goal
+use Rattle.iova_daemon.proofs.flusher.Flusher.go_on.Given as goal
 
 abbrev pub invariant-loop : goal.invariant-loop
 invariant-loop g l =
