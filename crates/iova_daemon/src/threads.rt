@@ -17,7 +17,8 @@ use std::snapshot::Snapshot;
 use std::thread::Promise;
 
 /// The promise of a session thread that the post and the sink which it gives back are those that it
-/// had, and that no more flushes are counted there as ended well than the sink was given good calls.
+/// had, and that no more flushes are counted there as ended well than the sink was given good
+/// calls.
 #[derive(Drop)]
 pub(crate) struct KeepsBoth<B: Names, D> {
     pub post: Snapshot<Post<B>>,
