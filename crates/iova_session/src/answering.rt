@@ -101,10 +101,12 @@ fn tell<L: Link>(
         × AppendsFront (L.sent link.old) (L.sent link.new) (answers_text answers.now)) }
 {
     text.clear();
-    if put_lines(answers, text) {
-        put_text(link, text.as_slice())
-    } else {
-        tell_any(link, answers, lists)
+    if !put_lines(answers, text) {
+        return tell_any(link, answers, lists);
+    }
+    match put_all(link, text.as_slice()) {
+        Ok(()) => Ok(()),
+        Err(LinkFault) => Err(End::LinkFault),
     }
 }
 
@@ -132,24 +134,8 @@ fn tell_any<L: Link>(link: &mut L, answers: &[Answer], out: &mut Vec<u8>) -> Res
     }
 }
 
-/// Writes this text.
-fn put_text<L: Link>(link: &mut L, text: &[u8]) -> Result<(), End>
-    ensures left { L.left link.new ≡ L.left link.old }
-    ensures reads { L.reads link.new ≡ L.reads link.old }
-    ensures ends { L.ends link.new ≡ L.ends link.old }
-    ensures failures { CountsFault result (L.failures link.old) (L.failures link.new) }
-    ensures ok { OnOk result (Appends (L.sent link.old) (L.sent link.new) text.now) }
-    ensures err { IfErr result (λ e. IsCut e
-        × AppendsFront (L.sent link.old) (L.sent link.new) text.now) }
-{
-    match put_all(link, text) {
-        Ok(()) => Ok(()),
-        Err(LinkFault) => Err(End::LinkFault),
-    }
-}
-
-/// Puts the answers' texts together, and answers whether it did: each has to be one line, and there
-/// has to be room for all.
+/// Puts the answers' texts together where each is one line and there is room for all: whether that
+/// is so.
 fn put_lines(answers: &[Answer], text: &mut ArrayVec<u8, RUN_TEXT>) -> bool
     requires { text.old.items ≡ [] }
     ensures { IsTrue result → text.new.items ≡ answers_text answers.now }

@@ -54,7 +54,7 @@ pub fn serve_one_by_one<B: Names, L: Link, K: Keep<B>, D: Sink>(
     steps_are_answered_in_kind();
     for at in 0..links.len() {
         let end = run_session(alloc, &mut links[at], keeper, post, sink);
-        push_end(ends, end);
+        ends.push_reserved(end);
     }
 }
 
@@ -87,15 +87,4 @@ pub fn serve_one_by_one_then_retry<B: Names, L: Link, K: Keep<B>, D: Sink>(
     keeper.domain_is_kept();
     steps_keep_validity();
     retry(keeper, post, sink)
-}
-
-/// Appends the end, for which there is room.
-fn push_end(ends: &mut Vec<SessionEnd>, end: SessionEnd)
-    requires { vec_len ends.old + 1 ≤ vec_capacity ends.old }
-    ensures items { ends.new.items ≡ ends.old.items ++ end ∷ [] }
-    ensures kept { vec_capacity ends.old ≤ vec_capacity ends.new }
-{
-    let Ok(()) = ends.push(end) else {
-        unreachable!();
-    };
 }

@@ -14,7 +14,7 @@ ghost use Rattle.iova_session.specs.Leaving.{still_waits};
 ghost use Rattle.iova_session.specs.Posts.{EndsClient, EndsFrom, Fits, TellsFitting, kept_if};
 
 use crate::end::End;
-use crate::leaving::{Leaving, leave, waits};
+use crate::leaving::{leave, waits};
 use crate::link::Link;
 use crate::post::{Post, take_room};
 use crate::serve::serve_within;
@@ -265,9 +265,8 @@ pub(crate) fn end_opened<B: Names, K: Keep<B>, D: Sink>(
     steps_keep_validity();
     keeper.domain_is_kept();
     let left = leave(keeper, &mut post.seat, sink, &mut post.ranges, id);
-    let ended = ended_of(left);
-    list_waiting(&mut post.waiting, id, ended);
-    told_of(ended, back, shares_of(&post.seat))
+    list_waiting(&mut post.waiting, id, left.ended);
+    told_of(left.ended, back, shares_of(&post.seat))
 }
 
 /// Puts the client on the list, last, where it waits.
@@ -309,13 +308,6 @@ fn fits(back: Option<Totals>, now: Totals, ending: Ending) -> bool
         Ending::Ended(_) => now == back,
         Ending::Waiting(left, _) => now.count.checked_sub(back.count) == Some(left),
     }
-}
-
-/// How the end of a client that left went.
-pub(crate) fn ended_of(left: Leaving) -> Result<Ending, Refusal>
-    ensures { result ≡ left.ended }
-{
-    left.ended
 }
 
 /// The seat's three shares.

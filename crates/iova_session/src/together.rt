@@ -135,7 +135,9 @@ pub(crate) fn ask_at_room<B: Names, K: Keep<B>, D: Sink>(
 {
     let count = ask_together(keeper, seat, session, id, requests, last, answers)?;
     if count > 0 {
-        pass_on_where(sink, turns < MOST_TURNS);
+        if turns < MOST_TURNS {
+            sink.pass_on();
+        }
         return Ok(count);
     }
     if turns == 0 || !waits_for_room(last, requests) || !sink.wait_for_turn() {
@@ -153,15 +155,6 @@ pub(crate) fn ask_at_room<B: Names, K: Keep<B>, D: Sink>(
         answers,
         turns - 1,
     )
-}
-
-/// Passes on where a turn was waited for.
-fn pass_on_where<D: Sink>(sink: &mut D, has_waited: bool)
-    ensures { D.calls sink.new ≡ D.calls sink.old }
-{
-    if has_waited {
-        sink.pass_on();
-    }
 }
 
 /// Whether the first request is a free that may find room where another thread has flushed.

@@ -34,12 +34,12 @@ loop-at-preserved g c =
       place = record { worker = n.place.worker ∙ i.place.worker; parts = n.place.parts ∙ i.place.parts; tally = omega (arith, n.place.tally, i.place.tally) };
       long = length-set c.loop-at.links at c.run_session-end.new.link ∙ i.long;
       rest = rest_after c.loop-at.links c.args.links.now at c.index-links-at.result c.run_session-end.new.link here lt i.rest;
-      count = let more = c.push_end.ensures.items in let before = i.count in grind (arith, common_steps);
+      count = let more = c.push_reserved.ensures.items in let before = i.count in grind (arith, common_steps);
       has_room = λ has. n.room (i.has_room has);
-      room = omega (arith, i.room, c.push_end.ensures.kept);
+      room = omega (arith, i.room, c.push_reserved.ensures.capacity);
       sessions = (
         i.sessions.0 ++ c.run_session-end.result ∷ [],
-        c.push_end.ensures.items ∙ ap (λ x. x ++ c.run_session-end.result ∷ []) i.sessions.1 ∙ append_assoc c.args.ends.now.items i.sessions.0 (c.run_session-end.result ∷ []),
+        c.push_reserved.ensures.items ∙ ap (λ x. x ++ c.run_session-end.result ∷ []) i.sessions.1 ∙ append_assoc c.args.ends.now.items i.sessions.0 (c.run_session-end.result ∷ []),
         next_served _ _ _ _ _ c.args.links.now c.loop-at.links i.sessions.0 at c.index-links-at.result c.run_session-end.new.link c.run_session-end.result _ _ _ _ _
             lt here i.rest (ap (λ (x : Identity). x.strict) i.same) (ap (λ (x : Identity). x.number) i.same) i.sessions.2
             (record {
