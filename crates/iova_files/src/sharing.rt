@@ -5,6 +5,21 @@ ghost use Rattle.std.specs.List.{AllByRecursion};
 use iova_links::locked_sink::{LockedSink, SharedSink};
 use std::alloc::Global;
 
+/// Each of these sinks, for posts to share. None for want of memory.
+pub fn share_all<D: Drop>(alloc: Global, sinks: Vec<D>) -> Option<Vec<SharedSink<D>>>
+    ensures { IfSome result (λ v. vec_len v ≡ vec_len sinks) }
+{
+    let Ok(mut held) = Vec::with_capacity(alloc, sinks.len()) else {
+        return None;
+    };
+    for sink in sinks {
+        let Ok(()) = held.push(SharedSink::new(sink)) else {
+            unreachable!();
+        };
+    }
+    Some(held)
+}
+
 /// A sink for each of so many posts, and one for the flusher. The last of those that are held is
 /// the flusher's; the others are those of the workers, whose posts come in turn and share them.
 /// None for want of memory.

@@ -1,10 +1,16 @@
 -- The result of serving, from the beginning of a domain to its end.
 use Rattle.std.proofs.Common.{ℕ, zero, suc, ◌≡◌, ◌∙◌, ◌+◌, ◌*◌, ◌%◌, ◌≤◌, List, [], ◌∷◌, ◌++◌, map, length, refl, sym, ap, arith, subst}
-use Rattle.std.specs.Prelude.{sum_by}
+use Rattle.std.specs.Prelude.{IfSome, Option, slice_get, sum_by}
+use Rattle.std.specs.List.{AllByRecursion}
 use Rattle.std.proofs.Math.Nat.{mul-suc}
 use Rattle.std.proofs.lemmas.List.Sums.{sum_by-append}
 use Rattle.iova_range.specs.declared.limits.TheConstants.{SEAT_PARTS}
 use Rattle.iova_sink.specs.Calls.{Call, good_calls}
+use Rattle.iova_sink.specs.Channels.{Asking, Talk}
+use Rattle.iova_sink.specs.Devices.{Recording}
+use Rattle.iova_command.specs.declared.sink_path.SinkPath.{SinkPath}
+use Rattle.iova_files.specs.declared.sinks.EitherSink.{EitherSink}
+use Rattle.iova_files.specs.Sinks.{IsOpened}
 use Rattle.iova_keep.specs.Views.{SeatState, TallyState, KeepsPlace, seat_with, seats_in_turn}
 use Rattle.iova_lock.specs.Books.{tally_parts, tally_good}
 use Rattle.iovad.specs.Ends.{EndsAll, workers_of}
@@ -28,6 +34,19 @@ none_counted workers (suc n) =
     sum_by-append good (seats_in_turn SEAT_PARTS workers n) (seat_with SEAT_PARTS (n % workers) ∷ []) in
     let more : tally_good (seats_in_turn SEAT_PARTS workers n) ≡ 0 = none_counted workers n in
     omega (arith, one, more)
+
+-- sinks of which no call was made
+pub none_called : {D : Type 0} (calls : D → List Call) (sinks : List D) → AllByRecursion (λ s. calls s ≡ []) sinks
+    → AllByRecursion (λ made. made ≡ []) (map calls sinks)
+none_called calls [] all = tt
+none_called calls (s ∷ ss) all = (all.0, none_called calls ss all.1)
+
+-- the first sink stays the first where one more is opened
+pub first_opened : {D : Type 0} (path : SinkPath) (reset : Option ℕ) (xs : List (EitherSink (Recording D) (Asking Talk)))
+    (x : EitherSink (Recording D) (Asking Talk)) → (length xs ≡ 0 → IsOpened path reset x) → IfSome (slice_get xs 0) (IsOpened path reset)
+    → IfSome (slice_get (xs ++ x ∷ []) 0) (IsOpened path reset)
+first_opened path reset [] x new old = new refl
+first_opened path reset (y ∷ ys) x new old = old
 
 -- where there is no seat, or none that is left, nothing is ended
 pub ends_none : (calls : List Call) → EndsAll [] [] calls calls

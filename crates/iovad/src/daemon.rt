@@ -1,11 +1,13 @@
 //! A daemon: the sessions of a plan, served on a socket, and the report of what they leave.
-ghost use Rattle.std.specs.Prelude.{◌≡◌, ◌<◌, ◌≤◌, ◌+◌, ◌*◌, true, [], None, Err, IfErr, IfOk, map, length, vec_len, vec_capacity};
+ghost use Rattle.std.specs.Prelude.{◌≡◌, ◌<◌, ◌≤◌, ◌+◌, ◌*◌, ◌||◌, true, [], None, Some, Err, IfErr, IfOk, IfSome, is_some, map, length, slice_get, vec_len, vec_capacity};
+ghost use Rattle.std.specs.List.{AllByRecursion};
 ghost use Rattle.iova_range.specs.declared.limits.TheConstants.{SEAT_PARTS};
 ghost use Rattle.iova_keep.specs.Views.{AreBlanksOf, seats_in_turn};
 ghost use Rattle.iova_lock.specs.Books.{tally_parts};
 ghost use Rattle.iova_command.specs.declared.plan.Plan.{Plan};
+ghost use Rattle.iova_files.specs.Sinks.{IsOpened};
 ghost use Rattle.iova_planned.specs.PlannedDomains.{AreNewSeats, seat_count};
-ghost use Rattle.iovad.specs.Plans.{IsAboveProfile, IsBoundsOf, IsFaultOfServing, planned_limits};
+ghost use Rattle.iovad.specs.Plans.{AreFactsOf, IsAboveProfile, IsBoundsOf, IsFaultOfServing, is_peer, planned_limits, planned_turns};
 ghost use Rattle.iovad.specs.Ends.{EndsAll, EndsCounted, IsAnswered, last_calls, workers_of};
 
 use iova_command::plan::Plan;
@@ -20,7 +22,7 @@ use iova_files::descriptors::sessions_within;
 use iova_files::listening::{Access, is_free, listen};
 use iova_files::notices::{CountedConsole, Notices};
 use iova_files::record_file::{RecordFile, is_in_use};
-use iova_files::sharing::sinks_in_turn;
+use iova_files::sharing::{share_all, sinks_in_turn};
 use iova_files::sinks::{DaemonSink, SinkPlace, open_sink};
 use iova_files::standard::path_of_input;
 use iova_keep::keep::Keep;
@@ -210,7 +212,9 @@ impl StartFault {
 }
 
 /// What is so of the plan's daemon of this name, which serves so many sessions at a time.
-fn facts_of(plan: &Plan<'_>, name: &str, clients: u64) -> Facts {
+fn facts_of(plan: &Plan<'_>, name: &str, clients: u64) -> Facts
+    ensures { AreFactsOf plan.now name.now clients result }
+{
     let mut facts = Facts::new(VERSION, plan.workers);
     facts.clients = clients;
     facts.granule = plan.granule.unwrap_or(FRAME_BYTES);
@@ -221,7 +225,9 @@ fn facts_of(plan: &Plan<'_>, name: &str, clients: u64) -> Facts {
 }
 
 /// Whether a peer answers.
-fn has_peer(plan: &Plan<'_>) -> bool {
+fn has_peer(plan: &Plan<'_>) -> bool
+    ensures { result ≡ is_peer plan.now.sink }
+{
     matches!(plan.sink, SinkPath::Peer(_))
 }
 
@@ -310,7 +316,7 @@ fn open_all<'a, 'p, R: Host, B: Names>(
 ) -> Result<(Vec<SharedSink<OpenedSink<'a, R>>>, DaemonAccept<'a, R>), StartFault>
     ensures { IfOk result (λ o. 2 ≤ vec_len o.0) }
 {
-    let sinks = open_sinks(run)?;
+    let sinks = open_sinks_first(run)?;
     files.record = open_record(run)?;
     files.control = listen_for_control(run)?;
     let accept = listen_for_sessions(run)?;
@@ -382,6 +388,7 @@ where
     requires posts { AreNewSeats shared (map (λ p. p.seat) posts.items) }
     requires parts { B.ledgers.good.parts ≡ SEAT_PARTS * shared.seats }
     requires sinks { vec_len sinks ≡ vec_len posts + 1 }
+    requires unused { AllByRecursion (λ s. D.calls s ≡ []) sinks.items }
     ensures { IfOk result (λ e. IsAnswered e.rest.domain (map D.calls sinks.items)
         (map D.calls e.sinks.items) (D.calls e.sink)
         (last_calls ⟦<OpenedSink<'a, R> as Sink>⟧.calls e.last)) }
@@ -486,7 +493,10 @@ fn listen_for_control<'p, R: Host>(
 
 /// How long a session's peer is waited for: in short turns, where the daemon may be asked to stop
 /// or a session may be idle for so long only.
-fn time_outs_of(plan: &Plan<'_>) -> TimeOuts {
+fn time_outs_of(plan: &Plan<'_>) -> TimeOuts
+    ensures turns { result.turns ≡ planned_turns plan.now.idle }
+    ensures turn { is_some result.turn ≡ (is_some plan.now.control || is_some plan.now.idle) }
+{
     let turns = match plan.idle {
         Some(seconds) => seconds.saturating_mul(1000 / STOP_PAUSE),
         None => u64::MAX,
@@ -522,11 +532,10 @@ fn service_of<'a, R: Host>(run: &Running<'a, '_, R>) -> Service<'a, R, Notices<'
     }
 }
 
-/// A sink for each worker, and one for the flusher, where nothing stands in their way. The first
-/// one has sent its peer a `reset` of the domain. A peer is not disturbed where the socket's place
-/// is taken; else that place is looked at behind the sinks. Refused by `SocketFault`, `NoMemory`
-/// and `CannotOpenSink`.
-fn open_sinks<'a, R: Host>(
+/// A sink for each worker, and one for the flusher, where nothing stands in their way. A peer is
+/// not disturbed where the socket's place is taken; else that place is looked at behind the sinks.
+/// Refused by `SocketFault`, `NoMemory` and `CannotOpenSink`.
+fn open_sinks_first<'a, R: Host>(
     run: &Running<'a, '_, R>,
 ) -> Result<Vec<SharedSink<OpenedSink<'a, R>>>, StartFault>
     ensures { IfOk result (λ v. 2 ≤ vec_len v) }
@@ -540,7 +549,30 @@ fn open_sinks<'a, R: Host>(
     {
         return Err(StartFault::CannotOpenSink);
     }
-    let count = run.plan.workers as usize + 1;
+    let sinks = open_sinks(run, run.plan.workers as usize + 1)?;
+    if !has_peer {
+        warn!(run.notices; target: "", "records only: no device answers");
+        if !is_free(run.rt, run.notices, run.plan.socket) {
+            return Err(StartFault::SocketFault);
+        }
+    }
+    match share_all(run.rt.alloc(), sinks) {
+        Some(shared) => Ok(shared),
+        None => Err(StartFault::NoMemory),
+    }
+}
+
+/// So many sinks. The first one has sent its peer a `reset` of the domain. Refused by
+/// `NoMemory` and by `CannotOpenSink`.
+#[tactic(auto, using(crate::proofs::Answered::first_opened))]
+fn open_sinks<'a, R: Host>(
+    run: &Running<'a, '_, R>,
+    count: usize,
+) -> Result<Vec<OpenedSink<'a, R>>, StartFault>
+    ensures count { IfOk result (λ v. vec_len v ≡ count) }
+    ensures reset { IfOk result (λ v. IfSome (slice_get v.items 0)
+        (IsOpened run.now.plan.now.sink (Some run.now.plan.now.domain))) }
+{
     let Ok(mut sinks) = Vec::with_capacity(run.rt.alloc(), count) else {
         return Err(StartFault::NoMemory);
     };
@@ -549,13 +581,9 @@ fn open_sinks<'a, R: Host>(
         let Some(sink) = open_one(run, SinkPlace::of(run.plan), reset) else {
             return Err(StartFault::CannotOpenSink);
         };
-        sinks.push_reserved(SharedSink::new(sink));
-    }
-    if !has_peer {
-        warn!(run.notices; target: "", "records only: no device answers");
-        if !is_free(run.rt, run.notices, run.plan.socket) {
-            return Err(StartFault::SocketFault);
-        }
+        let Ok(()) = sinks.push(sink) else {
+            unreachable!();
+        };
     }
     Ok(sinks)
 }
@@ -565,7 +593,9 @@ fn open_one<'a, R: Host>(
     run: &Running<'a, '_, R>,
     place: SinkPlace<'a>,
     reset: Option<u64>,
-) -> Option<OpenedSink<'a, R>> {
+) -> Option<OpenedSink<'a, R>>
+    ensures { IfSome result (IsOpened place.entry.path reset) }
+{
     let stop_deadline = run.signals.stop_deadline();
     open_sink(run.rt, run.notices, run.net, stop_deadline, place, reset)
 }
