@@ -65,11 +65,3 @@ AreKeptOut None windows = windows ≡ []
 AreKeptOut (Some path) windows =
     (text : List ℕ) × IsReadWell counted.NotDirect
     (record { start = 1; last = WIDE_TOP; profile = second_profile MAX_DEPOT }) text [] windows
-
--- some text was read to its end and is sound in such windows; whose text it is no contract says
-pub record IsCheckedSound (plan : CheckPlan) : Type 0 where
-  pub windows : List Frames
-  pub input : Option (List ℕ)
-  pub left : Option (List ℕ)
-  pub kept_out : AreKeptOut plan.regions windows
-  pub sound : ChecksSound plan windows input left

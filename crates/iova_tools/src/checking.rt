@@ -3,7 +3,7 @@ ghost use Rattle.std.specs.Prelude.{ℕ, ◌≡◌, IfOk, List, OnOk, Option};
 ghost use Rattle.iova_range.specs.Bounds.{second_profile};
 ghost use Rattle.iova_range.specs.declared.limits.TheConstants.{MAX_DEPOT, WIDE_TOP};
 ghost use Rattle.iova_check.specs.Runs.{Checks};
-ghost use Rattle.iova_tools.specs.Sound.{AreKeptOut, ChecksSound, IsCheckedSound, form_of};
+ghost use Rattle.iova_tools.specs.Sound.{AreKeptOut, ChecksSound, form_of};
 ghost use Rattle.iova_tools.specs.Verdicts.{EndsCheck};
 
 use crate::fault::Fault;
@@ -28,12 +28,11 @@ use std::io;
 use std::io::{Eprint, Read, Write};
 use std::rt::{Files, Runtime};
 
-/// Checks what the plan names, and prints what is found. It ends without a fault only where some
-/// text was read to its end that is sound, as `check_from` says of its reader's.
+/// Checks what the plan names, and prints what is found. No contract sees what a file has: what an
+/// end without a fault means `check_from` says of its reader.
 pub fn check_planned<'a, R>(rt: &R, plan: &CheckPlan<'a>) -> Result<(), Fault<'a>>
 where
     R: Runtime + AllocGlobal + Files<File = File>,
-    ensures { OnOk result (IsCheckedSound plan.now) }
 {
     let windows = windows_of(rt, plan.regions)?;
     if plan.path == STANDARD_INPUT {
