@@ -4,7 +4,7 @@ use Rattle.iova_command.specs.declared.sink_path.SinkPath.{SinkPath}
 use Rattle.iova_command.specs.declared.sink_path.SinkPath.TheVariants as place
 use Rattle.iova_sink.specs.Calls.{Call}
 use Rattle.iova_sink.specs.Channels.{Asking, IsAnsweredBy, Talk}
-use Rattle.iova_sink.specs.Devices.{Recording}
+use Rattle.iova_sink.specs.Devices.{RecordSinkState}
 use Rattle.iova_sink.specs.Records.{done_line, reset_line}
 use Rattle.iova_files.specs.declared.sinks.EitherSink.{EitherSink}
 use Rattle.iova_files.specs.declared.sinks.EitherSink.TheVariants as either
@@ -25,8 +25,8 @@ HasReset (Some domain) talk =
 
 -- What is opened where flushes go: of a file a device for its records, of a peer a channel to it,
 -- over which it has answered the reset. No call was made of either.
-abbrev pub IsOpened : {D : Type 0} → SinkPath → Option ℕ → EitherSink (Recording D) (Asking Talk)
-    → Type 0
+abbrev pub IsOpened : {D : Type 0} → SinkPath → Option ℕ
+    → EitherSink (RecordSinkState D) (Asking Talk) → Type 0
 IsOpened (place.File path) reset (either.First sink) = sink.calls ≡ []
 IsOpened (place.File path) reset (either.Second sink) = ⊥
 IsOpened (place.Peer path) reset (either.First sink) = ⊥

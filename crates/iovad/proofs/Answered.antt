@@ -7,7 +7,7 @@ use Rattle.std.proofs.lemmas.List.Sums.{sum_by-append}
 use Rattle.iova_range.specs.declared.limits.TheConstants.{SEAT_PARTS}
 use Rattle.iova_sink.specs.Calls.{Call, good_calls}
 use Rattle.iova_sink.specs.Channels.{Asking, Talk}
-use Rattle.iova_sink.specs.Devices.{Recording}
+use Rattle.iova_sink.specs.Devices.{RecordSinkState}
 use Rattle.iova_command.specs.declared.sink_path.SinkPath.{SinkPath}
 use Rattle.iova_files.specs.declared.sinks.EitherSink.{EitherSink}
 use Rattle.iova_files.specs.Sinks.{IsOpened}
@@ -42,8 +42,8 @@ none_called calls [] all = tt
 none_called calls (s ∷ ss) all = (all.0, none_called calls ss all.1)
 
 -- the first sink stays the first where one more is opened
-pub first_opened : {D : Type 0} (path : SinkPath) (reset : Option ℕ) (xs : List (EitherSink (Recording D) (Asking Talk)))
-    (x : EitherSink (Recording D) (Asking Talk)) → (length xs ≡ 0 → IsOpened path reset x) → IfSome (slice_get xs 0) (IsOpened path reset)
+pub first_opened : {D : Type 0} (path : SinkPath) (reset : Option ℕ) (xs : List (EitherSink (RecordSinkState D) (Asking Talk)))
+    (x : EitherSink (RecordSinkState D) (Asking Talk)) → (length xs ≡ 0 → IsOpened path reset x) → IfSome (slice_get xs 0) (IsOpened path reset)
     → IfSome (slice_get (xs ++ x ∷ []) 0) (IsOpened path reset)
 first_opened path reset [] x new old = new refl
 first_opened path reset (y ∷ ys) x new old = old
