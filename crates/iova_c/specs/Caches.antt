@@ -158,7 +158,7 @@ PutCall (Some c) lo len a new =
     (c' : CacheState) × ((res : Result (Unit {0}) Unput) × (Puts c.cache c' lo len res
     × ((a ≡ unput_answer res) × (new ≡ Some (with_cache c c')))))
 
-pub record Takes (old new : CacheState) (order : ℕ) (res : Option Frames) : Type 0 where
+pub record TakesFrom (old new : CacheState) (order : ℕ) (res : Option Frames) : Type 0 where
   pub taken : IfSome res (IsTakenOut old new order)
   pub empty : IfNone res (magazine_of old.magazines order ≡ [])
   pub unchanged : IfNone res (new ≡ old)
@@ -167,7 +167,7 @@ abbrev pub TakeCall : Option PagedCache → ℕ → RangeAnswer → Option Paged
 TakeCall None order a new = (a ≡ no_range NO_CACHE) × (new ≡ None)
 TakeCall (Some c) order a new =
     ((ORDERS ≤ order) × ((a ≡ no_range NO_ORDER) × (new ≡ Some c)))
-    ⊎ ((c' : CacheState) × ((res : Option Frames) × (Takes c.cache c' order res
+    ⊎ ((c' : CacheState) × ((res : Option Frames) × (TakesFrom c.cache c' order res
     × ((a ≡ some_answer DRY res) × (new ≡ Some (with_cache c c'))))))
 
 pub record MakesRoom (old new : CacheState) (res : Result (Unit {0}) Refusal) : Type 0 where

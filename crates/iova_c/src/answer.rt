@@ -4,7 +4,7 @@ ghost use Rattle.std.specs.Prelude.{◌≡◌, ◌≤◌, ◌*◌, ◌+◌, ◌^
 ghost use Rattle.iova_range.specs.Refusals.{refusal_number};
 ghost use Rattle.iova_c.specs.Answers.{range_answer, unpacked, number_answer, word_answer, mapping_answer, HasAddresses};
 
-use iova_core::Reply;
+use iova_model::step::Reply;
 use iova_range::range::Range;
 use iova_range::refusal::Refusal;
 

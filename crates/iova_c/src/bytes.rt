@@ -7,9 +7,9 @@ ghost use Rattle.iova_c.specs.Caches.{granule_in, in_bytes, MapCall, UnmapBytesC
 use crate::answer::{MappingAnswer, RangeAnswer, no_range, of_mapping};
 use crate::cached::{CacheSlot, NO_CACHE, alloc, unmap};
 use crate::slot::Slot;
-use iova_core::{Reply, Step};
 use iova_laws::replies::{queued_were_held, steps_are_answered_in_kind};
 use iova_laws::requests::requests_are_answered;
+use iova_model::step::{Reply, Step};
 use iova_range::limits::FRAME_BYTES;
 use iova_range::refusal::Refusal;
 

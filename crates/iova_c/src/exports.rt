@@ -20,7 +20,7 @@ use crate::lists::{holdings, windows};
 use crate::readers::{bounds, client_of, counts, flushes, granule, place, share, totals};
 use crate::slot::{Slot, clear, empty, make, make_granule, make_second, make_second_granule};
 use crate::steps::{alloc, begin, close, close_one, drain, end, open, reserve, unmap};
-use iova_core::Step;
+use iova_model::step::Step;
 use iova_range::limits::FRAME_BYTES;
 use std::alloc::Global;
 

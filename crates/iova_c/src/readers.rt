@@ -8,7 +8,8 @@ use crate::answer::{
     TotalsAnswer, number_of,
 };
 use crate::slot::Slot;
-use iova_core::{Place, Totals};
+use iova_model::place::Place;
+use iova_model::totals::Totals;
 use iova_range::refusal::Refusal;
 
 fn a_place(kind: u64, number: u64) -> PlaceAnswer

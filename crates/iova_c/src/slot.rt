@@ -5,7 +5,7 @@ ghost use Rattle.iova_c.specs.Slots.{HasStepped, HasMade, HasMadeSecond};
 use crate::answer::number_of;
 use crate::granule::{Granule, granule_of};
 use iova_core::domain::Domain;
-use iova_core::{Reply, Step};
+use iova_model::step::{Reply, Step};
 use iova_range::bounds::Bounds;
 use iova_range::limits::FRAME_BYTES;
 use iova_range::profile::Profile;

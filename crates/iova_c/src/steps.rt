@@ -7,7 +7,7 @@ use crate::answer::{
     NumberAnswer, PackedAnswer, RangeAnswer, number_of, of_number, of_range, of_word, pack, unpack,
 };
 use crate::slot::{Slot, is_unmap_fast, step, step_cold};
-use iova_core::{Reply, Step};
+use iova_model::step::{Reply, Step};
 use iova_range::limits::FRAME_BYTES;
 use iova_range::refusal::Refusal;
 

@@ -11,9 +11,9 @@ ghost use Rattle.iova_cache.specs.Exchanges.{request, giving_up, IsAsked, IsDeni
 use crate::cache::Cache;
 use crate::magazine::MAGAZINE;
 use iova_core::domain::Domain;
-use iova_core::{ClientId, Reply, Step};
 use iova_laws::replies::steps_are_answered_in_kind;
 use iova_laws::requests::requests_are_answered;
+use iova_model::step::{ClientId, Reply, Step};
 use iova_range::limits::{MAX_FRAMES, MOST_CACHED, ORDERS};
 use iova_range::range::Range;
 use iova_range::refusal::Refusal;

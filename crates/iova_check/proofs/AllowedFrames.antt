@@ -11,7 +11,7 @@ use Rattle.iova_check.specs.declared.stage.Change.TheVariants as change
 use Rattle.iova_check.specs.declared.finding.Kind.TheVariants as kind
 use Rattle.iova_check.specs.declared.finding.Run.{Run}
 use Rattle.iova_check.specs.History.{with_change}
-use Rattle.iova_check.specs.Bounds.{Bounds}
+use Rattle.iova_check.specs.AllowedBounds.{AllowedBounds}
 use Rattle.iova_check.specs.Findings.{since_of, told_outside, IsFound}
 use Rattle.iova_check.specs.Allowing.{with_window}
 
@@ -36,7 +36,7 @@ inside_is false true g h = absurd cc
 not_lt : (a b : ℕ) → b ≤ a → nat_lt a b ≡ false
 not_lt a b le = false_from_ne_true (nat_lt a b) (λ is. let lt : a < b = ltb-true a b is in absurd (omega arith))
 
-abbrev between : ℕ → ℕ → Bounds
+abbrev between : ℕ → ℕ → AllowedBounds
 between first last = record { first = first; last = last; windows = [] }
 
 outside_below : (f first last : ℕ) → f < first → told_outside (between first last) f ≡ Some None
@@ -87,7 +87,7 @@ none_of true s = refl
 none_of false true = refl
 none_of false false = refl
 
-pub window_allowed : (b : Bounds) (w : Frames) (f : ℕ) (was at : Stage) → at ≡ (if covers f w then with_change (change.Unmapped 0) was else was)
+pub window_allowed : (b : AllowedBounds) (w : Frames) (f : ℕ) (was at : Stage) → at ≡ (if covers f w then with_change (change.Unmapped 0) was else was)
     → since_of kind.Unmapped was ≡ told_outside b f → since_of kind.Unmapped at ≡ told_outside (with_window b w) f
 window_allowed b w f was at is h =
     let o = nat_lt f b.first || nat_lt b.last f in

@@ -14,10 +14,10 @@ use Rattle.iova_check.specs.declared.source.Form.{Form}
 use Rattle.iova_check.specs.declared.source.Form.TheVariants as form
 use Rattle.iova_check.specs.declared.source.Source.{Source}
 use Rattle.iova_text.specs.Lines.{is_not_lf, HasNoLf, whole_line, IsUnended}
-use Rattle.iova_check.specs.Bounds.{bounds_asked}
+use Rattle.iova_check.specs.AllowedBounds.{bounds_asked}
 use Rattle.iova_check.specs.Text.{IsHeader, IsEvent, header_text, event_text}
 use Rattle.iova_check.specs.Trace.{event_said}
-use Rattle.iova_check.specs.Logs.{Lines, events_text, IsLog, IsTrace, AreLinesOf, AreLines, IsOfLog, IsCutOff, AreFirstLines, first_lines_text, next_line_number, MayFollow}
+use Rattle.iova_check.specs.Logs.{LogLines, events_text, IsLog, IsTrace, AreLinesOf, AreLines, IsOfLog, IsCutOff, AreFirstLines, first_lines_text, next_line_number, MayFollow}
 use Rattle.iova_check.specs.Checking.{HasChecked, ChecksNext}
 use Rattle.iova_check.specs.Runs.{IsChecked, IsDone, StopsAtCut}
 use Rattle.iova_check.specs.CheckState.{IsFront, IsKeptOf, IsRestOf, IsOpen, IsBegun, HasTaken, number_at, Goes, Stops, is_last}
@@ -69,22 +69,22 @@ front_says domain kept line h = elim h.all_or_long [
 -- Checkers
 
 -- what is known is of the lines so far
-pub number_at-is : (lines : Option Lines) (c : Option Checker) (text : List ℕ) → IsChecked lines c text → number_at c ≡ next_line_number lines
+pub number_at-is : (lines : Option LogLines) (c : Option Checker) (text : List ℕ) → IsChecked lines c text → number_at c ≡ next_line_number lines
 number_at-is None None text r = refl
 number_at-is None (Some c) text r = absurd r
 number_at-is (Some l) None text r = absurd r
 number_at-is (Some l) (Some c) text r = r.follows.line
 
-pub no_lines : (lines : Option Lines) (c : Option Checker) (text : List ℕ) → c ≡ None → IsChecked lines c text → (lines ≡ None) × (text ≡ [])
+pub no_lines : (lines : Option LogLines) (c : Option Checker) (text : List ℕ) → c ≡ None → IsChecked lines c text → (lines ≡ None) × (text ≡ [])
 no_lines None c text e r = (refl, (let P : Option Checker → Type 0 = λ x. IsChecked None x text in subst P e r))
 no_lines (Some l) c text e r = absurd (let P : Option Checker → Type 0 = λ x. IsChecked (Some l) x text in subst P e r)
 
 -- Lines
 
-pub with_line : Lines → Event → List ℕ → Lines
+pub with_line : LogLines → Event → List ℕ → LogLines
 with_line l e line = record { bounds = l.bounds; past = e ∷ l.past; text = l.text ++ whole_line line }
 
-log_more : (asked : LogBounds) (l : Lines) (e : Event) (line : List ℕ) → IsEvent e → line ≡ event_text e → IsLog asked l → IsLog asked (with_line l e line)
+log_more : (asked : LogBounds) (l : LogLines) (e : Event) (line : List ℕ) → IsEvent e → line ≡ event_text e → IsLog asked l → IsLog asked (with_line l e line)
 unfolding with_line
 log_more asked l e line event spelled h = record {
   first = h.first;
@@ -99,19 +99,19 @@ log_more asked l e line event spelled h = record {
 }
 
 pub log_grows : (source : Source) (e : Event) (line : List ℕ) → source.form ≡ form.Log → IsEvent e → line ≡ event_text e
-    → (l : Lines) → AreLines source l → AreLines source (with_line l e line)
+    → (l : LogLines) → AreLines source l → AreLines source (with_line l e line)
 log_grows source e line is event spelled l h =
     let P : Form → Type 0 = λ f. AreLinesOf f source.asked l in
     let Q : Form → Type 0 = λ f. AreLinesOf f source.asked (with_line l e line) in
     subst Q (sym is) (log_more source.asked l e line event spelled (subst P is h))
 
-trace_more : (asked : LogBounds) (domain : Option ℕ) (l : Lines) (e : Event) (line : List ℕ) → HasNoLf line → e ≡ event_said domain line
+trace_more : (asked : LogBounds) (domain : Option ℕ) (l : LogLines) (e : Event) (line : List ℕ) → HasNoLf line → e ≡ event_said domain line
     → IsTrace asked domain l → IsTrace asked domain (with_line l e line)
 unfolding with_line
 trace_more asked domain l e line one says h = record { under = h.under; say = (l.text, line, h.say, one, says, refl) }
 
 pub trace_grows : (source : Source) (domain : Option ℕ) (e : Event) (line : List ℕ) → source.form ≡ form.Trace domain → HasNoLf line
-    → e ≡ event_said domain line → (l : Lines) → AreLines source l → AreLines source (with_line l e line)
+    → e ≡ event_said domain line → (l : LogLines) → AreLines source l → AreLines source (with_line l e line)
 trace_grows source domain e line is one says l h =
     let P : Form → Type 0 = λ f. AreLinesOf f source.asked l in
     let Q : Form → Type 0 = λ f. AreLinesOf f source.asked (with_line l e line) in
@@ -119,7 +119,7 @@ trace_grows source domain e line is one says l h =
 
 -- the header
 
-header_lines : Source → ℕ → ℕ → List ℕ → Lines
+header_lines : Source → ℕ → ℕ → List ℕ → LogLines
 header_lines source first last line = record { bounds = bounds_asked source.asked first last; past = Other Plain ∷ []; text = whole_line line }
 
 header_good : (source : Source) (first last : ℕ) (line : List ℕ) → source.form ≡ form.Log → IsHeader first last → line ≡ header_text first last
@@ -159,7 +159,7 @@ header_taken source p q line first last fresh c log empty none header spelled ke
     let l = header_lines source first last line in
     let more = next.more in
     let nothing : st.rest ≡ [] = rest_empty source.form p.line.items st.rest empty st.kept in
-    let start : taken ≡ [] = st.begins.whole ∙ (ap (λ (x : Option Lines). first_lines_text x ++ st.rest) lines.0 ∙ nothing) in
+    let start : taken ≡ [] = st.begins.whole ∙ (ap (λ (x : Option LogLines). first_lines_text x ++ st.rest) lines.0 ∙ nothing) in
     record {
       lines = Some l;
       text = st.text ++ more;
@@ -178,12 +178,12 @@ header_taken source p q line first last fresh c log empty none header spelled ke
 
 -- a line more
 
-pub record OneMore (lines : Option Lines) (old : Checker) (text : List ℕ) (e : Event) (line : List ℕ) (new : Checker) (more : List ℕ) : Type 0 where
-  pub front : Lines
+pub record OneMore (lines : Option LogLines) (old : Checker) (text : List ℕ) (e : Event) (line : List ℕ) (new : Checker) (more : List ℕ) : Type 0 where
+  pub front : LogLines
   pub is : lines ≡ Some front
   pub checked : IsChecked (Some (with_line front e line)) (Some new) (text ++ more)
 
-one_more : (lines : Option Lines) (checker : Option Checker) (old new : Checker) (text before after line : List ℕ) (e : Event)
+one_more : (lines : Option LogLines) (checker : Option Checker) (old new : Checker) (text before after line : List ℕ) (e : Event)
     → checker ≡ Some old → IsChecked lines checker text → (next : ChecksNext old e before new after) → OneMore lines old text e line new next.more
 unfolding with_line
 one_more None checker old new text before after line e is r next = absurd (let P : Option Checker → Type 0 = λ x. IsChecked None x text in subst P is r)
@@ -196,7 +196,7 @@ open_some form.Log c = tt
 open_some (form.Trace domain) c = tt
 
 pub line_taken : (source : Source) (p q : CheckState) (line : List ℕ) (old new : Checker) (e : Event)
-    → ((l : Lines) → AreLines source l → AreLines source (with_line l e line))
+    → ((l : LogLines) → AreLines source l → AreLines source (with_line l e line))
     → p.line.items ≡ [] → p.checker ≡ Some old → ChecksNext old e p.findings.items new q.findings.items
     → q.line.items ≡ p.line.items → q.checker ≡ Some new → Goes source p (whole_line line) [] q
 unfolding with_line
@@ -206,9 +206,9 @@ line_taken source p q line old new e grows empty checker next kept after taken w
     let wider = with_line l e line in
     let more = next.more in
     let nothing : st.rest ≡ [] = rest_empty source.form p.line.items st.rest empty st.kept in
-    let P : Option Lines → Type 0 = AreFirstLines source in
+    let P : Option LogLines → Type 0 = AreFirstLines source in
     let whole : taken ≡ l.text =
-    st.begins.whole ∙ (ap (λ (x : Option Lines). first_lines_text x ++ st.rest) one.is ∙ (ap (λ (x : List ℕ). l.text ++ x) nothing ∙ append-nil l.text)) in
+    st.begins.whole ∙ (ap (λ (x : Option LogLines). first_lines_text x ++ st.rest) one.is ∙ (ap (λ (x : List ℕ). l.text ++ x) nothing ∙ append-nil l.text)) in
     record {
       lines = Some wider;
       text = st.text ++ more;
@@ -328,7 +328,7 @@ no_memory source p bytes taken written st = record {
 
 -- a line that may not stand there
 pub bad_line : (source : Source) (p : CheckState) (line : List ℕ) (number : ℕ) → source.form ≡ form.Log → HasNoLf line → p.line.items ≡ []
-    → ((lines : Option Lines) (text : List ℕ) → IsChecked lines p.checker text → ¬ MayFollow lines line) → number ≡ number_at p.checker
+    → ((lines : Option LogLines) (text : List ℕ) → IsChecked lines p.checker text → ¬ MayFollow lines line) → number ≡ number_at p.checker
     → Stops source p (whole_line line) p.findings.items (fault.BadLog number)
 bad_line source p line number log one empty bad is taken written st =
     let nothing : st.rest ≡ [] = rest_empty source.form p.line.items st.rest empty st.kept in
@@ -354,12 +354,12 @@ bad_line source p line number log one empty bad is taken written st =
     }
 
 pub bad_event : (checker : Option Checker) (c : Checker) (line : List ℕ) → checker ≡ Some c → ((e : Event) → IsEvent e → line ≢ event_text e)
-    → (lines : Option Lines) (text : List ℕ) → IsChecked lines checker text → ¬ MayFollow lines line
+    → (lines : Option LogLines) (text : List ℕ) → IsChecked lines checker text → ¬ MayFollow lines line
 bad_event checker c line is none None text r = absurd (let P : Option Checker → Type 0 = λ x. IsChecked None x text in subst P is r)
 bad_event checker c line is none (Some l) text r = λ may. none may.0 may.1 may.2
 
 pub bad_header : (checker : Option Checker) (line : List ℕ) → checker ≡ None → ((first last : ℕ) → IsHeader first last → line ≢ header_text first last)
-    → (lines : Option Lines) (text : List ℕ) → IsChecked lines checker text → ¬ MayFollow lines line
+    → (lines : Option LogLines) (text : List ℕ) → IsChecked lines checker text → ¬ MayFollow lines line
 bad_header checker line is none None text r = λ may. none may.0 may.1 may.2 may.3
 bad_header checker line is none (Some l) text r = absurd (let P : Option Checker → Type 0 = λ x. IsChecked (Some l) x text in subst P is r)
 
@@ -391,7 +391,7 @@ overlong source p bytes number log more long is taken written st =
 pub begun_stands : (source : Source) (p : CheckState) → IsBegun source.form source.asked p.checker → p.line.items ≡ [] → p.findings.items ≡ [] → HasTaken source [] [] p
 begun_stands source p begun empty none = go source.form source.asked p.checker begun refl (refl, refl)
   where
-    stands : (lines : Option Lines) → AreFirstLines source lines → first_lines_text lines ≡ [] → IsOpen source.form p.checker → IsChecked lines p.checker []
+    stands : (lines : Option LogLines) → AreFirstLines source lines → first_lines_text lines ≡ [] → IsOpen source.form p.checker → IsChecked lines p.checker []
         → HasTaken source [] [] p
     stands lines good text opened checked = record {
       lines = lines;
@@ -411,7 +411,7 @@ begun_stands source p begun empty none = go source.form source.asked p.checker b
     go (form.Trace domain) asked None h is same = absurd h
     go (form.Trace domain) asked (Some c) h is same =
         let bounds = bounds_asked asked 0 1099511627775 in
-        let l : Lines = record { bounds = bounds; past = []; text = [] } in
+        let l : LogLines = record { bounds = bounds; past = []; text = [] } in
         let P : Form → Type 0 = λ x. AreLinesOf x source.asked l in
         let A : LogBounds → Type 0 = λ x. bounds ≡ bounds_asked x 0 1099511627775 in
         let O : Option Checker → Type 0 = IsOpen source.form in
@@ -429,7 +429,7 @@ is_log form.Log h = refl
 is_log (form.Trace domain) h = absurd h
 
 -- the text ends in a log's line, or has no line
-cut_lines : (lines : Option Lines) (rest : List ℕ) → HasNoLf rest → ((l : Lines) → lines ≡ Some l → rest ≢ []) → IsCutOff lines rest
+cut_lines : (lines : Option LogLines) (rest : List ℕ) → HasNoLf rest → ((l : LogLines) → lines ≡ Some l → rest ≢ []) → IsCutOff lines rest
 cut_lines None rest one some = one
 cut_lines (Some l) rest one some = (one, some l refl)
 
@@ -453,7 +453,7 @@ ends_cut source taken written p number st none log is why =
       ]);
     }
 
-done_lines : (source : Source) (lines : Option Lines) (checker : Option Checker) (c : Checker) (taken rest written : List ℕ) → checker ≡ Some c
+done_lines : (source : Source) (lines : Option LogLines) (checker : Option Checker) (c : Checker) (taken rest written : List ℕ) → checker ≡ Some c
     → IsChecked lines checker written → AreFirstLines source lines → taken ≡ first_lines_text lines → IsDone source taken written c
 done_lines source None checker c taken rest written is r good whole = absurd (let P : Option Checker → Type 0 = λ x. IsChecked None x written in subst P is r)
 done_lines source (Some l) checker c taken rest written is r good whole = record {

@@ -4,7 +4,7 @@ use Rattle.iova_check.specs.declared.event.Event.{Event}
 use Rattle.iova_check.specs.declared.event.Event.TheVariants as event
 use Rattle.iova_check.specs.declared.finding.Finding.{Finding}
 use Rattle.iova_check.specs.declared.allowed.Allowed.{Allowed}
-use Rattle.iova_check.specs.Bounds.{Bounds}
+use Rattle.iova_check.specs.AllowedBounds.{AllowedBounds}
 use Rattle.iova_check.specs.Allowing.{Allows}
 use Rattle.iova_check.specs.declared.counts.LogCounts.{LogCounts}
 use Rattle.iova_check.specs.declared.checker.Checker.{Checker}
@@ -33,8 +33,8 @@ counted_more past (event.Other what) found n c h =
 
 pub checks_next : (old new : Checker) (e : Event) (before after : List ℕ) (told : List (Option Finding)) → new.allowed ≡ old.allowed
     → after ≡ before ++ findings_text old.tracker.line told
-    → ((bounds : Bounds) (past : List Event) → Allows old.allowed bounds → Follows past old.tracker → AreFindings bounds (stage_of past) (flight_of past) e told)
-    → ((bounds : Bounds) (past : List Event) → Allows old.allowed bounds → Follows past old.tracker → TellsBreaks past e told)
+    → ((bounds : AllowedBounds) (past : List Event) → Allows old.allowed bounds → Follows past old.tracker → AreFindings bounds (stage_of past) (flight_of past) e told)
+    → ((bounds : AllowedBounds) (past : List Event) → Allows old.allowed bounds → Follows past old.tracker → TellsBreaks past e told)
     → ((past : List Event) → Follows past old.tracker → Follows (e ∷ past) new.tracker)
     → new.counts ≡ counts_after old.counts e (how_many told) → ChecksNext old e before new after
 checks_next old new e before after told same appended are breaks follows counts = record {

@@ -12,7 +12,7 @@ use Rattle.iova_check.specs.declared.stage.Stage.TheVariants as stage
 use Rattle.iova_check.specs.declared.finding.Kind.TheVariants as kind
 use Rattle.iova_check.specs.declared.finding.Run.{Run}
 use Rattle.iova_check.specs.declared.finding.Finding.{Finding}
-use Rattle.iova_check.specs.Bounds.{Bounds}
+use Rattle.iova_check.specs.AllowedBounds.{AllowedBounds}
 use Rattle.iova_check.specs.History.{stage_of}
 use Rattle.iova_check.specs.Findings.{since_of, IsFound, IsRun, of_run, IsMapTold, is_reuse, AreFindings, IsKeptNext, TellsBreaks}
 use Rattle.iova_check.proofs.Kept.{free_is, given_is, kept_from_given, given_from_kept}
@@ -64,7 +64,7 @@ of_none (Some out) None None a b = refl
 of_none (Some out) None (Some run) a b = absurd cc
 of_none (Some out) (Some run) reused a b = absurd cc
 
-told_promise : (past : List Event) (bounds : Bounds) (r : Frames) (fs : List (Option Finding)) → IsMapTold bounds (stage_of past) r fs
+told_promise : (past : List Event) (bounds : AllowedBounds) (r : Frames) (fs : List (Option Finding)) → IsMapTold bounds (stage_of past) r fs
     → (list_any is_reuse fs ≡ false) ↔ IsKeptNext past r
 told_promise past bounds r fs h =
     let to = r.lo + r.len in
@@ -86,7 +86,7 @@ told_promise past bounds r fs h =
           (not_found reused r.lo to h.reused h.is_reused (λ f from under. ap (since_of kind.Reused) (free f from under))),
     )
 
-pub breaks_told : (past : List Event) (bounds : Bounds) (flights : ℕ → Option OpenFlush) (e : Event) (fs : List (Option Finding))
+pub breaks_told : (past : List Event) (bounds : AllowedBounds) (flights : ℕ → Option OpenFlush) (e : Event) (fs : List (Option Finding))
     → AreFindings bounds (stage_of past) flights e fs → TellsBreaks past e fs
 breaks_told past bounds flights (event.Map r) fs h = told_promise past bounds r fs h
 breaks_told past bounds flights (event.Unmap r) fs h = tt

@@ -8,7 +8,7 @@ use Rattle.iova_check.specs.declared.source.Form.{Form}
 use Rattle.iova_check.specs.declared.source.Form.TheVariants as form
 use Rattle.iova_check.specs.declared.source.Source.{Source}
 use Rattle.iova_check.specs.declared.checker.Checker.{Checker}
-use Rattle.iova_check.specs.Logs.{Lines}
+use Rattle.iova_check.specs.Logs.{LogLines}
 use Rattle.iova_check.specs.declared.fault.CheckFault.{CheckFault}
 use Rattle.iova_check.specs.declared.fault.CheckFault.TheVariants as fault
 use Rattle.iova_check.specs.declared.run.CheckState.{CheckState}
@@ -34,14 +34,14 @@ Stops-then source a b p q v w e first second taken written st =
     let Q : List ℕ → Type 0 = λ x. EndsCheck source (taken ++ (p ++ q)) x e in
     subst Q (append_assoc written v w) (subst P (append_assoc taken p q) (second (taken ++ p) (written ++ v) (first taken written st)))
 
-BeginsWithLines-more : (source : Source) (taken more rest : List ℕ) (lines : Option Lines) → BeginsWithLines source taken lines rest
+BeginsWithLines-more : (source : Source) (taken more rest : List ℕ) (lines : Option LogLines) → BeginsWithLines source taken lines rest
     → BeginsWithLines source (taken ++ more) lines (rest ++ more)
 BeginsWithLines-more source taken more rest lines b = record {
   good = b.good;
   whole = ap (λ (x : List ℕ). x ++ more) b.whole ∙ append_assoc (first_lines_text lines) rest more;
 }
 
-IsBad-more : (lines : Option Lines) (rest more : List ℕ) → IsBad lines rest → IsBad lines (rest ++ more)
+IsBad-more : (lines : Option LogLines) (rest more : List ℕ) → IsBad lines rest → IsBad lines (rest ++ more)
 IsBad-more lines rest more (inl other) = inl (odd_more (λ line. ¬ MayFollow lines line) rest more other)
 IsBad-more lines rest more (inr long) = inr (overlong_more rest more long)
 
@@ -194,7 +194,7 @@ fresh_line source taken written q mid st empty domain replies = record {
 }
 
 -- the lines, and then the line with its LF
-line_whole : (taken bytes rest : List ℕ) (lines : Option Lines) → taken ++ bytes ≡ first_lines_text lines ++ rest
+line_whole : (taken bytes rest : List ℕ) (lines : Option LogLines) → taken ++ bytes ≡ first_lines_text lines ++ rest
     → first_lines_text lines ++ whole_line rest ≡ taken ++ whole_line bytes
 line_whole taken bytes rest lines e =
     sym (append_assoc (first_lines_text lines) rest (10 ∷ [])) ∙ (ap (λ (x : List ℕ). x ++ 10 ∷ []) (sym e) ∙ append_assoc taken bytes (10 ∷ []))

@@ -10,9 +10,9 @@ use Rattle.iova_check.specs.declared.source.Form.TheVariants as form
 use Rattle.iova_check.specs.declared.source.Source.{Source}
 use Rattle.iova_range.specs.declared.limits.TheConstants.{MAX_TRACE_LINE, WIDE_TOP}
 use Rattle.iova_text.specs.Lines.{HasNoLf, IsUnended}
-use Rattle.iova_check.specs.Bounds.{bounds_asked}
+use Rattle.iova_check.specs.AllowedBounds.{bounds_asked}
 use Rattle.iova_check.specs.Checking.{HasChecked}
-use Rattle.iova_check.specs.Logs.{Lines, BeginsWithLines}
+use Rattle.iova_check.specs.Logs.{LogLines, BeginsWithLines}
 use Rattle.iova_check.specs.Runs.{IsChecked, IsDone, StopsAtBad, StopsAtCut, BreaksOff}
 
 -- the front of a line is kept: all of it, or as much as the longest line has of which something is
@@ -48,7 +48,7 @@ IsBegun (form.Trace domain) asked (Some c) = HasChecked (bounds_asked asked 0 WI
 -- What was taken is good lines and the front of one. What was written and the kept findings are the
 -- text of their findings.
 pub record HasTaken (source : Source) (taken written : List ℕ) (p : CheckState) : Type 0 where
-  pub lines : Option Lines
+  pub lines : Option LogLines
   pub text : List ℕ
   pub rest : List ℕ
   pub begins : BeginsWithLines source taken lines rest

@@ -1,7 +1,7 @@
 -- What a checker knows, and the text of its findings.
 use Rattle.std.specs.Prelude.{ℕ, ◌≡◌, List, ◌∷◌, ◌++◌}
 use Rattle.iova_check.specs.declared.event.Event.{Event}
-use Rattle.iova_check.specs.Bounds.{Bounds}
+use Rattle.iova_check.specs.AllowedBounds.{AllowedBounds}
 use Rattle.iova_check.specs.Allowing.{Allows}
 use Rattle.iova_check.specs.declared.checker.Checker.{Checker}
 use Rattle.iova_check.specs.Following.{Follows}
@@ -9,7 +9,7 @@ use Rattle.iova_check.specs.Counting.{IsCounted}
 use Rattle.iova_check.specs.Output.{IsTold}
 
 -- it has taken these lines under these bounds, and this is the text of their findings
-pub record HasChecked (bounds : Bounds) (past : List Event) (c : Checker)
+pub record HasChecked (bounds : AllowedBounds) (past : List Event) (c : Checker)
     (text : List ℕ) : Type 0 where
   pub under : Allows c.allowed bounds
   pub follows : Follows past c.tracker
@@ -23,5 +23,5 @@ pub record ChecksNext (old : Checker) (e : Event) (before : List ℕ) (new : Che
     (after : List ℕ) : Type 0 where
   pub more : List ℕ
   pub appended : after ≡ before ++ more
-  pub checks : (bounds : Bounds) (past : List Event) (text : List ℕ)
+  pub checks : (bounds : AllowedBounds) (past : List Event) (text : List ℕ)
       → HasChecked bounds past old text → HasChecked bounds (e ∷ past) new (text ++ more)

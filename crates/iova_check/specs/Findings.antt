@@ -12,7 +12,7 @@ use Rattle.iova_check.specs.declared.finding.Kind.TheVariants as kind
 use Rattle.iova_check.specs.declared.finding.Run.{Run}
 use Rattle.iova_check.specs.declared.finding.Finding.{Finding}
 use Rattle.iova_check.specs.declared.finding.Finding.TheVariants as finding
-use Rattle.iova_check.specs.Bounds.{Bounds}
+use Rattle.iova_check.specs.AllowedBounds.{AllowedBounds}
 use Rattle.iova_check.specs.History.{next_line}
 use Rattle.iova_check.specs.Promise.{IsKeptAt}
 
@@ -52,7 +52,7 @@ IsFound tells lo to None = (f : ℕ) → lo ≤ f → f < to → tells f ≡ Non
 IsFound tells lo to (Some run) = IsRun tells lo to run
 
 -- the finding of a frame that is out of the bounds
-abbrev pub told_outside : Bounds → ℕ → Option (Option ℕ)
+abbrev pub told_outside : AllowedBounds → ℕ → Option (Option ℕ)
 told_outside bounds f =
     if (nat_lt f bounds.first || nat_lt bounds.last f) || list_any (covers f) bounds.windows
     then Some None else None
@@ -96,7 +96,7 @@ of_run kind None = None
 of_run kind (Some run) = Some (finding.Frames kind run)
 
 -- the findings of a line that maps these frames
-pub record IsMapTold (bounds : Bounds) (at : ℕ → Stage) (r : Frames)
+pub record IsMapTold (bounds : AllowedBounds) (at : ℕ → Stage) (r : Frames)
     (fs : List (Option Finding)) : Type 0 where
   pub outside : Option Run
   pub overlap : Option Run
@@ -108,7 +108,7 @@ pub record IsMapTold (bounds : Bounds) (at : ℕ → Stage) (r : Frames)
       reused ∷ []
 
 -- the findings of a line that unmaps these frames
-pub record IsUnmapTold (bounds : Bounds) (at : ℕ → Stage) (r : Frames)
+pub record IsUnmapTold (bounds : AllowedBounds) (at : ℕ → Stage) (r : Frames)
     (fs : List (Option Finding)) : Type 0 where
   pub outside : Option Run
   pub cut : Option Run
@@ -120,7 +120,7 @@ pub record IsUnmapTold (bounds : Bounds) (at : ℕ → Stage) (r : Frames)
       unmapped ∷ []
 
 -- the findings of a line at which a device reached these frames
-pub record IsUseTold (bounds : Bounds) (at : ℕ → Stage) (r : Frames)
+pub record IsUseTold (bounds : AllowedBounds) (at : ℕ → Stage) (r : Frames)
     (fs : List (Option Finding)) : Type 0 where
   pub outside : Option Run
   pub stale : Option Run
@@ -136,7 +136,7 @@ flush_told number odd = (if odd then Some (finding.Flush number) else None) ∷ 
 
 -- the findings of a line that says `e`, where the frames are at these stages and these flushes in
 -- flight before it
-abbrev pub AreFindings : Bounds → (ℕ → Stage) → (ℕ → Option OpenFlush) → Event → List (Option Finding)
+abbrev pub AreFindings : AllowedBounds → (ℕ → Stage) → (ℕ → Option OpenFlush) → Event → List (Option Finding)
     → Type 0
 AreFindings bounds at flights (event.Map r) fs = IsMapTold bounds at r fs
 AreFindings bounds at flights (event.Unmap r) fs = IsUnmapTold bounds at r fs

@@ -1,6 +1,6 @@
 pub mod Text
 pub mod History
-pub mod Bounds
+pub mod AllowedBounds
 pub mod Promise
 pub mod Marks
 pub mod Following

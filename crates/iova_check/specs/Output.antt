@@ -6,7 +6,7 @@ use Rattle.iova_check.specs.declared.finding.Kind.TheVariants as kind
 use Rattle.iova_check.specs.declared.finding.Run.{Run}
 use Rattle.iova_check.specs.declared.finding.Finding.{Finding}
 use Rattle.iova_check.specs.declared.finding.Finding.TheVariants as finding
-use Rattle.iova_check.specs.Bounds.{Bounds}
+use Rattle.iova_check.specs.AllowedBounds.{AllowedBounds}
 use Rattle.iova_check.specs.History.{next_line, flight_of, stage_of}
 use Rattle.iova_check.specs.Counting.{how_many}
 use Rattle.iova_check.specs.Findings.{AreFindings, TellsBreaks}
@@ -45,7 +45,7 @@ findings_text line fs = flat_map (found_text line) fs
 
 -- The text of the findings of lines, and how many that are: of those before, and then of
 -- the newest one.
-pub record IsToldNext (bounds : Bounds) (past : List Event) (e : Event) (before text : List ℕ)
+pub record IsToldNext (bounds : AllowedBounds) (past : List Event) (e : Event) (before text : List ℕ)
     (n found : ℕ) : Type 0 where
   pub findings : List (Option Finding)
   pub are : AreFindings bounds (stage_of past) (flight_of past) e findings
@@ -53,7 +53,7 @@ pub record IsToldNext (bounds : Bounds) (past : List Event) (e : Event) (before 
   pub whole : text ≡ before ++ findings_text (next_line past) findings
   pub count : found ≡ n + how_many findings
 
-abbrev pub IsTold : Bounds → List Event → List ℕ → ℕ → Type 0
+abbrev pub IsTold : AllowedBounds → List Event → List ℕ → ℕ → Type 0
 IsTold bounds [] text found = (text ≡ []) × (found ≡ 0)
 IsTold bounds (e ∷ past) text found =
     (before : List ℕ) × (n : ℕ) × IsTold bounds past before n

@@ -9,13 +9,13 @@ use Rattle.iova_check.specs.declared.source.Source.{Source}
 use Rattle.iova_check.specs.declared.checker.Checker.{Checker}
 use Rattle.iova_check.specs.declared.fault.CheckFault.{CheckFault}
 use Rattle.iova_check.specs.declared.fault.CheckFault.TheVariants as fault
-use Rattle.iova_check.specs.Logs.{Lines, AreLines, IsOfLog, next_line_number, BeginsWithLines, IsBad, IsCutOff}
+use Rattle.iova_check.specs.Logs.{LogLines, AreLines, IsOfLog, next_line_number, BeginsWithLines, IsBad, IsCutOff}
 use Rattle.iova_check.specs.Checking.{HasChecked}
 use Rattle.iova_check.specs.Summary.{summary_text}
 
 -- lines were checked: this is known of them, nothing before the header of a log, and this is the
 -- text of their findings
-abbrev pub IsChecked : Option Lines → Option Checker → List ℕ → Type 0
+abbrev pub IsChecked : Option LogLines → Option Checker → List ℕ → Type 0
 IsChecked None None text = text ≡ []
 IsChecked None (Some c) text = ⊥
 IsChecked (Some l) None text = ⊥
@@ -24,7 +24,7 @@ IsChecked (Some l) (Some c) text = HasChecked l.bounds l.past c text
 -- all that was taken are whole lines, the findings of each line are written, and this is known of
 -- it
 pub record IsDone (source : Source) (taken written : List ℕ) (c : Checker) : Type 0 where
-  pub lines : Lines
+  pub lines : LogLines
   pub good : AreLines source lines
   pub whole : taken ≡ lines.text
   pub checked : HasChecked lines.bounds lines.past c written
@@ -37,7 +37,7 @@ IsUnendedIn (form.Trace domain) rest = HasNoLf rest
 -- the findings of the good lines of a log are written, and the line after them, of this number, is
 -- bad
 pub record StopsAtBad (source : Source) (taken written : List ℕ) (number : ℕ) : Type 0 where
-  pub lines : Option Lines
+  pub lines : Option LogLines
   pub rest : List ℕ
   pub checker : Option Checker
   pub begins : BeginsWithLines source taken lines rest
@@ -48,7 +48,7 @@ pub record StopsAtBad (source : Source) (taken written : List ℕ) (number : ℕ
 
 -- the run stops at a line that the input ends in
 pub record StopsAtCut (source : Source) (taken written : List ℕ) (number : ℕ) : Type 0 where
-  pub lines : Option Lines
+  pub lines : Option LogLines
   pub rest : List ℕ
   pub checker : Option Checker
   pub begins : BeginsWithLines source taken lines rest
@@ -59,7 +59,7 @@ pub record StopsAtCut (source : Source) (taken written : List ℕ) (number : ℕ
 
 -- the findings of all whole lines are written, and no bad line has been taken
 pub record StopsInLine (source : Source) (taken written : List ℕ) : Type 0 where
-  pub lines : Option Lines
+  pub lines : Option LogLines
   pub rest : List ℕ
   pub checker : Option Checker
   pub begins : BeginsWithLines source taken lines rest
@@ -68,7 +68,7 @@ pub record StopsInLine (source : Source) (taken written : List ℕ) : Type 0 whe
 
 -- of the findings of good lines the first bytes are written
 pub record BreaksOff (source : Source) (taken written : List ℕ) : Type 0 where
-  pub lines : Option Lines
+  pub lines : Option LogLines
   pub rest : List ℕ
   pub checker : Option Checker
   pub text : List ℕ

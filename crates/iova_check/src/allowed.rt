@@ -1,6 +1,6 @@
 //! The frames that may be mapped.
 ghost use Rattle.std.specs.Prelude.{◌≡◌, ℕ, [], ◌≤◌, IfOk, OnOk};
-ghost use Rattle.iova_check.specs.Bounds.{Bounds};
+ghost use Rattle.iova_check.specs.AllowedBounds.{AllowedBounds};
 ghost use Rattle.iova_check.specs.Findings.{told_outside, IsFound};
 ghost use Rattle.iova_check.specs.Allowing.{Allows, with_window};
 
@@ -65,7 +65,7 @@ impl Allowed {
 
     /// Takes the frames of a window out.
     fn without(&mut self, window: Range) -> Result<(), AllocError>
-        ensures { OnOk result ((bounds : Bounds) → Allows self.old bounds
+        ensures { OnOk result ((bounds : AllowedBounds) → Allows self.old bounds
             → Allows self.new (with_window bounds window)) }
     {
         self.stages.change_range(window, Change::Unmapped(0))?;
@@ -76,7 +76,7 @@ impl Allowed {
     /// it.
     pub fn find_outside(&self, lo: u64, to: u64) -> Option<Run>
         requires { lo ≤ to }
-        ensures { (bounds : Bounds) → Allows self.now bounds
+        ensures { (bounds : AllowedBounds) → Allows self.now bounds
             → IsFound (told_outside bounds) lo to result }
     {
         find(&self.stages, Kind::Unmapped, lo, to)

@@ -33,13 +33,13 @@ impl Drop for Checker {
 impl Checker {
     ghost use Rattle.std.specs.Prelude.{◌≡◌, [], OnOk, OnErr};
     ghost use Rattle.iova_check.specs.History.{IsInReach};
-    ghost use Rattle.iova_check.specs.Bounds.{Bounds};
+    ghost use Rattle.iova_check.specs.AllowedBounds.{AllowedBounds};
     ghost use Rattle.iova_check.specs.Allowing.{Allows};
     ghost use Rattle.iova_check.specs.Checking.{HasChecked, ChecksNext};
 
     /// No line was taken.
     pub fn new(alloc: Global, allowed: Allowed) -> Checker
-        ensures { (bounds : Bounds) → Allows allowed bounds → HasChecked bounds [] result [] }
+        ensures { (bounds : AllowedBounds) → Allows allowed bounds → HasChecked bounds [] result [] }
     {
         Checker {
             allowed,

@@ -3,7 +3,7 @@ ghost use Rattle.std.specs.Prelude.{◌≡◌, ◌<◌, ℕ, [], ◌∷◌, Opti
 ghost use Rattle.std.specs.Io.KnownBytes.{Appends};
 ghost use Rattle.iova_check.specs.declared.source.Source.{Source};
 ghost use Rattle.iova_check.specs.CheckState.{IsBegun, is_last};
-ghost use Rattle.iova_check.specs.Bounds.{bounds_asked};
+ghost use Rattle.iova_check.specs.AllowedBounds.{bounds_asked};
 ghost use Rattle.iova_check.specs.Checking.{HasChecked};
 ghost use Rattle.iova_check.specs.Runs.{Checks, Counts, ChecksAndCounts};
 

@@ -5,7 +5,7 @@ ghost use Rattle.std.specs.BTreeMap.{get};
 ghost use Rattle.iova_check.specs.declared.event.Event.{Event};
 ghost use Rattle.iova_check.specs.History.{IsRange, IsInReach, flight_of, stage_of};
 ghost use Rattle.iova_check.specs.Marks.{stage_at};
-ghost use Rattle.iova_check.specs.Bounds.{Bounds};
+ghost use Rattle.iova_check.specs.AllowedBounds.{AllowedBounds};
 ghost use Rattle.iova_check.specs.Allowing.{Allows};
 ghost use Rattle.iova_check.specs.Following.{Follows};
 ghost use Rattle.iova_check.specs.Findings.{of_run, flush_told, IsMapTold, IsUnmapTold, IsUseTold, AreFindings, TellsBreaks};
@@ -22,10 +22,10 @@ use iova_range::range::Range;
 /// given out too early exactly where the promise is kept for each frame that the line maps.
 pub fn findings(tracker: &Tracker, allowed: &Allowed, event: &Event) -> [Option<Finding>; 3]
     requires { IsInReach event.now }
-    ensures told { (bounds : Bounds) (past : List Event) → Allows allowed.now bounds
+    ensures told { (bounds : AllowedBounds) (past : List Event) → Allows allowed.now bounds
         → Follows past tracker.now
         → AreFindings bounds (stage_of past) (flight_of past) event.now result }
-    ensures breaks { (bounds : Bounds) (past : List Event) → Allows allowed.now bounds
+    ensures breaks { (bounds : AllowedBounds) (past : List Event) → Allows allowed.now bounds
         → Follows past tracker.now
         → TellsBreaks past event.now result }
 {
@@ -35,7 +35,7 @@ pub fn findings(tracker: &Tracker, allowed: &Allowed, event: &Event) -> [Option<
 /// The findings of the next line, by what the tracker knows.
 fn tell(tracker: &Tracker, allowed: &Allowed, event: &Event) -> [Option<Finding>; 3]
     requires { IsInReach event.now }
-    ensures { (bounds : Bounds) → Allows allowed.now bounds
+    ensures { (bounds : AllowedBounds) → Allows allowed.now bounds
         → AreFindings bounds (stage_at tracker.now.stages)
         (get nat_cmp tracker.now.flights) event.now
         result }
@@ -52,7 +52,7 @@ fn tell(tracker: &Tracker, allowed: &Allowed, event: &Event) -> [Option<Finding>
 
 fn of_map(stages: &Stages, allowed: &Allowed, range: Range) -> [Option<Finding>; 3]
     requires { IsRange range }
-    ensures { (bounds : Bounds) → Allows allowed.now bounds
+    ensures { (bounds : AllowedBounds) → Allows allowed.now bounds
         → IsMapTold bounds (stage_at stages.now) range result }
 {
     let (lo, to) = (range.lo(), range.lo() + range.len());
@@ -68,7 +68,7 @@ fn of_map(stages: &Stages, allowed: &Allowed, range: Range) -> [Option<Finding>;
 
 fn of_unmap(stages: &Stages, allowed: &Allowed, range: Range) -> [Option<Finding>; 3]
     requires { IsRange range }
-    ensures { (bounds : Bounds) → Allows allowed.now bounds
+    ensures { (bounds : AllowedBounds) → Allows allowed.now bounds
         → IsUnmapTold bounds (stage_at stages.now) range result }
 {
     let (lo, to) = (range.lo(), range.lo() + range.len());
@@ -84,7 +84,7 @@ fn of_unmap(stages: &Stages, allowed: &Allowed, range: Range) -> [Option<Finding
 
 fn of_use(stages: &Stages, allowed: &Allowed, range: Range) -> [Option<Finding>; 3]
     requires { IsRange range }
-    ensures { (bounds : Bounds) → Allows allowed.now bounds
+    ensures { (bounds : AllowedBounds) → Allows allowed.now bounds
         → IsUseTold bounds (stage_at stages.now) range result }
 {
     let (lo, to) = (range.lo(), range.lo() + range.len());

@@ -12,4 +12,3 @@ pub mod orders;
 mod sums;
 
 pub use crate::clients::Clients;
-pub use iova_model::step::ClientId;

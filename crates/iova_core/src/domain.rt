@@ -14,18 +14,18 @@ ghost use Rattle.iova_core.specs.Domain.{IsStepOf, place_inside, frames_in_rings
 
 use crate::reclaim::{drain, drain_unless};
 use crate::walk::{Walked, is_at_hand, walk};
-use iova_clients::{ClientId, Clients};
+use iova_clients::Clients;
 use iova_depot::caches::Caches;
 use iova_depot::spot::Spot;
-use iova_flush::Entry;
 use iova_flush::flights::Flights;
 use iova_flush::ring::Ring;
 use iova_laws::places::places_add_up;
 use iova_laws::promises::promises_are_kept;
 use iova_laws::refusals::no_memory_is_refused;
 use iova_laws::validity::{new_domains_are_valid, steps_keep_validity};
+use iova_model::entry::Entry;
 use iova_model::place::{Counts, Place};
-use iova_model::step::{Point, Reply, Step};
+use iova_model::step::{ClientId, Point, Reply, Step};
 use iova_model::totals::Totals;
 use iova_range::bounds::Bounds;
 use iova_range::limits::{MAX_FRAMES, MAX_HOLDINGS, MAX_WORKERS, ORDERS};

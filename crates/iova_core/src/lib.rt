@@ -5,8 +5,3 @@ pub mod crossing;
 pub mod domain;
 mod reclaim;
 mod walk;
-
-pub use iova_clients::ClientId;
-pub use iova_model::place::{Counts, Place};
-pub use iova_model::step::{Point, Reply, Step};
-pub use iova_model::totals::Totals;

@@ -13,9 +13,9 @@ ghost use Rattle.iova_depot.specs.Cached.{with_contents};
 ghost use Rattle.iova_core.specs.Reclaim.{HasAll, Frees, IsBacked, IsDrained, Exchanges, with_range, with_ranges};
 
 use iova_depot::caches::Caches;
-use iova_flush::Entry;
 use iova_flush::ring::Ring;
 use iova_mag::magazine::Magazine;
+use iova_model::entry::Entry;
 use iova_range::limits::{MAX_ENTRIES, MAX_FRAMES, ORDERS};
 use iova_range::range::Range;
 use iova_range::sizes::order_of;

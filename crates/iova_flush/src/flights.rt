@@ -2,8 +2,8 @@
 ghost use Rattle.std.specs.Prelude.{◌≡◌, ◌≤◌, ◌<◌, ◌-◌, ◌^◌, ◌↔◌, ◌⊎◌, ◌==◌, position, length, IsTrue, is_ok, IsOk, IsOkUnless, IfOk, IfErr, OnOk, OnErr};
 ghost use Rattle.iova_model.specs.Flushes.{flushes_from, with_flight, after_end, is_in_flight, NumbersRise, AreSound};
 
-use crate::Flight;
 use arrayvec::ArrayVec;
+use iova_model::flight::Flight;
 use iova_range::limits::{MAX_FLIGHTS, MAX_SERIAL};
 use iova_range::refusal::Refusal;
 use std::marker::Model;

@@ -3,6 +3,3 @@
 
 pub mod flights;
 pub mod ring;
-
-pub use iova_model::entry::Entry;
-pub use iova_model::flight::Flight;

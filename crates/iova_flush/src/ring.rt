@@ -6,8 +6,8 @@ ghost use Rattle.iova_model.specs.Flushes.{entry_range, flushed_front, unflushed
 ghost use Rattle.iova_model.specs.Valid.{IsRequestSizedEntry};
 ghost use Rattle.iova_flush.specs.Rings.{frame_count, oldest_count, OldestWaits};
 
-use crate::Entry;
 use circular_buffer::HeapCircularBuffer;
+use iova_model::entry::Entry;
 use iova_range::limits::{MAX_ENTRIES, MAX_FRAMES};
 use iova_range::refusal::Refusal;
 use std::alloc::Global;

@@ -15,10 +15,10 @@ ghost use Rattle.iova_lock.specs.Books.{BookState, DoesInBook, IsSame, AppendsNe
 ghost use Rattle.iova_keep.specs.Views.{AreBlanksOf, TallyState, SeatState, Covers, IsWorker, new_seats, seats_in_turn, left_of, stat_of, IsLowered, IsCloseHeard, IsKept, MovesSharesAlone};
 
 use iova_core::domain::Domain;
-use iova_core::{ClientId, Reply, Step};
 use iova_keep::ledgers::{Blanks, Ledgers};
 use iova_keep::names::Names;
 use iova_keep::seat::{Seat, Shares, Tally};
+use iova_model::step::{ClientId, Reply, Step};
 use iova_model::totals::Totals;
 use iova_range::bounds::Bounds;
 use iova_range::limits::{MAX_ENTRIES, MAX_WORKERS, SEAT_PARTS, TALLY_PARTS};

@@ -19,7 +19,7 @@ use std::sync::Wait;
 use std::test::*;
 use std::thread::Threads;
 
-mod act;
+mod action;
 mod cases;
 mod growths;
 mod random;
@@ -43,7 +43,7 @@ fn run<B: Names, K: Keep<B>, R: Abort + Print>(
     }
     if let Some(seat) = seats.first_mut() {
         match case.0 {
-            Task::Rows(rows) => act::run(rt, alloc, keeper, seat, strict, rows),
+            Task::Rows(rows) => action::run(rt, alloc, keeper, seat, strict, rows),
             _ => growths::ask(rt, alloc, keeper, seat),
         }
     }

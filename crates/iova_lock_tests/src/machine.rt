@@ -2,7 +2,7 @@
 //! room. What a step leaves then, and what a domain tells, is seen through the library for C
 //! (tests/c/machine.c).
 use iova_core::domain::{Domain, run};
-use iova_core::{Point, Reply, Step};
+use iova_model::step::{Point, Reply, Step};
 use iova_range::bounds::Bounds;
 use iova_range::refusal::Refusal;
 use std::alloc::Global;

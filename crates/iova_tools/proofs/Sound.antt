@@ -17,7 +17,7 @@ use Rattle.iova_check.specs.declared.source.Source.{Source}
 use Rattle.iova_check.specs.declared.stage.OpenFlush.{OpenFlush}
 use Rattle.iova_check.specs.declared.stage.Stage.{Stage}
 use Rattle.iova_check.specs.declared.stage.Stage.TheVariants as stage
-use Rattle.iova_check.specs.Bounds.{Bounds}
+use Rattle.iova_check.specs.AllowedBounds.{AllowedBounds}
 use Rattle.iova_check.specs.Counting.{how_many}
 use Rattle.iova_check.specs.Findings.{AreFindings, IsFound, IsMapTold, TellsBreaks, is_reuse, of_run, told_outside}
 use Rattle.iova_check.specs.History.{flight_of, next_line, stage_of}
@@ -48,7 +48,7 @@ within_range : (tells : ℕ → Option (Option ℕ)) (lo to : ℕ) (found : Opti
 within_range tells lo to None h is f from under = h f from under
 within_range tells lo to (Some run) h is f from under = absurd cc
 
-new_line : (bounds : Bounds) (past : List Event) (flights : ℕ → Option OpenFlush) (e : Event) (fs : List (Option Finding)) (f : ℕ)
+new_line : (bounds : AllowedBounds) (past : List Event) (flights : ℕ → Option OpenFlush) (e : Event) (fs : List (Option Finding)) (f : ℕ)
     → AreFindings bounds (stage_of past) flights e fs → TellsBreaks past e fs → how_many fs ≡ 0 → maps f e ≡ true
     → IsKeptAt (e ∷ past) f (next_line past) × (told_outside bounds f ≡ None)
 new_line bounds past flights (event.Map r) fs f h breaks none in_range =
@@ -96,7 +96,7 @@ kept_later law e past f n below is later kept =
     let free : stage_of (lines_before past n) f ≡ stage.Free = (law past f n is).0 kept in
     (law (e ∷ past) f n later).1 (ap (λ x. stage_of x f) there ∙ free)
 
-sound_lines : PromiseIsTold → (bounds : Bounds) (past : List Event) (text : List ℕ) (found : ℕ) → IsTold bounds past text found → found ≡ 0
+sound_lines : PromiseIsTold → (bounds : AllowedBounds) (past : List Event) (text : List ℕ) (found : ℕ) → IsTold bounds past text found → found ≡ 0
     → (f n : ℕ) → IsLine (maps f) past n → IsKeptAt past f n × (told_outside bounds f ≡ None)
 sound_lines law bounds [] text found told none f n is = absurd cc
 sound_lines law bounds (e ∷ past) text found told none f n is =

@@ -10,7 +10,7 @@ use Rattle.iova_check.specs.declared.source.Form.TheVariants as form
 use Rattle.iova_check.specs.declared.source.Source.{Source}
 use Rattle.iova_check.specs.Counting.{count_lines, is_lost, is_map, is_too_long}
 use Rattle.iova_check.specs.Findings.{told_outside}
-use Rattle.iova_check.specs.Logs.{AreLines, Lines}
+use Rattle.iova_check.specs.Logs.{AreLines, LogLines}
 use Rattle.iova_check.specs.Promise.{IsKeptAt, IsLine, maps}
 use Rattle.iova_check.specs.Runs.{AreRead}
 use Rattle.iova_command.specs.declared.check_plan.CheckPlan.{CheckPlan}
@@ -19,7 +19,7 @@ use Rattle.iova_regions.specs.declared.region.Counted.TheVariants as counted
 
 -- Some line maps frames. Each frame of such a line may be mapped, and the promise is kept for it
 -- there. No line says that events were lost, and none was too long to be read.
-pub record IsSound (l : Lines) : Type 0 where
+pub record IsSound (l : LogLines) : Type 0 where
   pub kept : (f n : ℕ) → IsLine (maps f) l.past n → IsKeptAt l.past f n
   pub within : (f n : ℕ) → IsLine (maps f) l.past n → told_outside l.bounds f ≡ None
   pub some : count_lines is_map l.past ≢ 0
@@ -31,7 +31,7 @@ pub record IsSound (l : Lines) : Type 0 where
 -- that it says: what says nothing of frames or flushes is passed over, and an invalidation that was
 -- submitted stands for a flush that begins and ends well there.
 pub record ReadsSound (source : Source) (input left : Option (List ℕ)) : Type 0 where
-  pub lines : Lines
+  pub lines : LogLines
   pub taken : List ℕ
   pub takes : Consumes input left taken
   pub end : IsAtEnd left

@@ -191,11 +191,11 @@ with_span-at e x (y ∷ t) (suc n) r le below above =
     let s = rw later at r in
     rw later (ap (λ (m : List Span). y ∷ m) (with_span-at y.end x t n s.2 (omega arith) (λ k d h. below (suc k) d (omega arith)) (λ k d h m. above (suc k) d (omega arith) (omega arith))))
 
-pub stands_here : (e lo : ℕ) (l : List Span) (n : ℕ) → IsRisingFrom e l → Holds lo l → n ≤ length l
+pub stands_after : (e lo : ℕ) (l : List Span) (n : ℕ) → IsRisingFrom e l → Holds lo l → n ≤ length l
     → ((k : ℕ) (d : Span) → k < n → (slice_index_or l k d).lo < lo) → ((k : ℕ) (d : Span) → n ≤ k → k < length l → lo ≤ (slice_index_or l k d).lo)
     → StandsHere lo l n
-stands_here e lo [] n r h le below above = absurd h
-stands_here e lo (y ∷ t) zero r (inl is) le below above =
+stands_after e lo [] n r h le below above = absurd h
+stands_after e lo (y ∷ t) zero r (inl is) le below above =
     let test : nat_eq y.lo lo ≡ true = grind (arith, nat_tests) in
     record {
       within = omega arith;
@@ -204,15 +204,15 @@ stands_here e lo (y ∷ t) zero r (inl is) le below above =
       replaced = λ d. rw test refl;
       again = λ d. rw test (sym (with_span-front y t r.1 r.2));
     }
-stands_here e lo (y ∷ t) zero r (inr h) le below above =
+stands_after e lo (y ∷ t) zero r (inr h) le below above =
     let low = above 0 y (omega arith) (omega arith) in
     let high = holds_above y.end lo t r.2 h in
     absurd (omega (arith, r.1))
-stands_here e lo (y ∷ t) (suc n) r (inl is) le below above = let lt = below 0 y (omega arith) in absurd (omega arith)
-stands_here e lo (y ∷ t) (suc n) r (inr h) le below above =
+stands_after e lo (y ∷ t) (suc n) r (inl is) le below above = let lt = below 0 y (omega arith) in absurd (omega arith)
+stands_after e lo (y ∷ t) (suc n) r (inr h) le below above =
     let high = holds_above y.end lo t r.2 h in
     let test : nat_eq y.lo lo ≡ false = grind (arith, nat_tests, r.1) in
-    let i = stands_here y.end lo t n r.2 h (omega arith) (λ k d q. below (suc k) d (omega arith)) (λ k d p q. above (suc k) d (omega arith) (omega arith)) in
+    let i = stands_after y.end lo t n r.2 h (omega arith) (λ k d q. below (suc k) d (omega arith)) (λ k d p q. above (suc k) d (omega arith) (omega arith)) in
     record {
       within = omega (arith, i.within);
       begins = i.begins;
@@ -237,7 +237,7 @@ rising_sorted e (y ∷ t) r (suc i) (suc j) d le lt = rising_sorted y.end t r.2 
 
 -- where a range is found to begin
 pub stands_at : (lo : ℕ) (l : List Span) (at : ℕ) (x : Span) → IsRisingFrom 0 l → Holds lo l → at < length l → x ≡ slice_index_or l at x → x.lo ≡ lo → StandsHere lo l at
-stands_at lo l at x r held lt is begins = stands_here 0 lo l at r held (omega arith) below above
+stands_at lo l at x r held lt is begins = stands_after 0 lo l at r held (omega arith) below above
   where
     own_lo : (d : Span) → (slice_index_or l at d).lo ≡ lo
     own_lo d = ap (λ (u : Span). u.lo) (get_or_default l at d x lt ∙ sym is) ∙ begins

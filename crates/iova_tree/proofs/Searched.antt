@@ -5,8 +5,8 @@ use Rattle.iova_tree.specs.Room.{room}
 use Rattle.iova_tree.specs.Spans.{Span, end_after, first_lo, room_between, room_after, with_span, IsRisingFrom}
 use Rattle.iova_tree.specs.declared.branch.Link.{Link}
 use Rattle.iova_tree.specs.declared.search.Wanted.{Wanted}
-use Rattle.iova_tree.specs.declared.search.Found.{Found}
-use Rattle.iova_tree.specs.declared.search.Found.TheVariants.{Nowhere, At, Taken}
+use Rattle.iova_tree.specs.declared.search.FoundPlace.{FoundPlace}
+use Rattle.iova_tree.specs.declared.search.FoundPlace.TheVariants.{Nowhere, At, Taken}
 use Rattle.iova_tree.specs.Fit.{IsWanted, IsFound, higher, highest_after, taken}
 use Rattle.iova_tree.specs.Branches.{spans_below, IsLinked, AreLinked, AreLinkedBehind, AreAllBelow, highest_behind}
 use Rattle.std.proofs.Math.Seq.{take-suc, drop-cons}
@@ -114,32 +114,32 @@ module _ {N : Type 0} (spans : N → List Span) (w : Wanted) (h : IsWanted w) (f
   abbrev pub link_at : Link N
   link_at = slice_index_or links at d
 
-  parts_here : links ≡ before_at ++ link_at ∷ behind_at
-  parts_here = parts_at links at d lt
+  links_parted : links ≡ before_at ++ link_at ∷ behind_at
+  links_parted = parts_at links at d lt
 
-  linked_here : AreLinked spans (before_at ++ link_at ∷ behind_at)
-  linked_here = rw parts_here at linked
+  parts_linked : AreLinked spans (before_at ++ link_at ∷ behind_at)
+  parts_linked = rw links_parted at linked
 
-  rising_here : IsRisingFrom from (spans_below spans (before_at ++ link_at ∷ behind_at))
-  rising_here = rw parts_here at rising
+  parts_rising : IsRisingFrom from (spans_below spans (before_at ++ link_at ∷ behind_at))
+  parts_rising = rw links_parted at rising
 
   pub at_linked : IsLinked (spans link_at.node) link_at.first link_at.end link_at.room
-  at_linked = is_linked spans w h from before_at link_at behind_at linked_here rising_here
+  at_linked = is_linked spans w h from before_at link_at behind_at parts_linked parts_rising
 
   pub at_rising : IsRisingFrom (end_after from (spans_below spans before_at)) (spans link_at.node)
-  at_rising = rising_own spans w h from before_at link_at behind_at linked_here rising_here
+  at_rising = rising_own spans w h from before_at link_at behind_at parts_linked parts_rising
 
   pub low_linked : AreLinked spans before_at
-  low_linked = (in_parts spans before_at link_at behind_at linked_here).low
+  low_linked = (in_parts spans before_at link_at behind_at parts_linked).low
 
   pub low_rising : IsRisingFrom from (spans_below spans before_at)
-  low_rising = rising_low spans w h from before_at link_at behind_at linked_here rising_here
+  low_rising = rising_low spans w h from before_at link_at behind_at parts_linked parts_rising
 
   pub at_gap : 1 ≤ at → room (end_after from (spans_below spans before_at)) link_at.first ≤ link_at.room
   at_gap some =
       let n : length before_at ≡ at = length-take-le at links (omega arith) in
       let e = end_after-any from 0 (spans_below spans before_at) (some_below spans before_at low_linked (omega (arith, n))) in
-      let g = (in_parts spans before_at link_at behind_at linked_here).gap (omega (arith, n)) in
+      let g = (in_parts spans before_at link_at behind_at parts_linked).gap (omega (arith, n)) in
       rw e g
 
   -- the highest place behind the links up to this one
@@ -164,36 +164,36 @@ module _ {N : Type 0} (spans : N → List Span) (w : Wanted) (h : IsWanted w) (f
       let high = spans_below spans behind_at in
       let e = end_after from low in
       let i = comes_in w e (spans link_at.node) lo h at_rising found in
-      let old = rw (below_parts spans before_at link_at behind_at) at rising_here in
+      let old = rw (below_parts spans before_at link_at behind_at) at parts_rising in
       let above = rising-back e (spans link_at.node) high (rising-back from low (spans link_at.node ++ high) old) in
       let own = rising_join e (with_span (taken w lo) (spans link_at.node)) high i.rising (rw i.same_end above) in
       rw (set_at links at n lt, below_parts spans before_at n behind_at, is) (rising_join from low (with_span (taken w lo) (spans link_at.node) ++ high) low_rising own)
 
   -- another link in its place, with this range more or not
-  pub set_own : (n : Link N) (highest : Option ℕ) (o : Found) → highest ≡ highest_after w (end_after from (spans_below spans before_at)) (spans link_at.node)
+  pub set_own : (n : Link N) (highest : Option ℕ) (o : FoundPlace) → highest ≡ highest_after w (end_after from (spans_below spans before_at)) (spans link_at.node)
       → IsFound (highest_after w (end_after from (spans_below spans before_at)) (spans link_at.node)) (spans n.node ≡ spans link_at.node) (λ lo. spans n.node ≡ with_span (taken w lo) (spans link_at.node)) o
       → IsFound highest (spans_below spans (slice_set links at n) ≡ spans_below spans links) (λ lo. spans_below spans (slice_set links at n) ≡ with_span (taken w lo) (spans_below spans links)) o
   set_own n highest o is f = go o f
     where
       old : spans_below spans links ≡ spans_below spans (before_at ++ link_at ∷ behind_at)
-      old = ap (spans_below spans) parts_here
+      old = ap (spans_below spans) links_parted
 
       new : spans_below spans (slice_set links at n) ≡ spans_below spans (before_at ++ n ∷ behind_at)
       new = ap (spans_below spans) (set_at links at n lt)
 
-      go : (o : Found) → IsFound (highest_after w (end_after from (spans_below spans before_at)) (spans link_at.node)) (spans n.node ≡ spans link_at.node) (λ lo. spans n.node ≡ with_span (taken w lo) (spans link_at.node)) o
+      go : (o : FoundPlace) → IsFound (highest_after w (end_after from (spans_below spans before_at)) (spans link_at.node)) (spans n.node ≡ spans link_at.node) (λ lo. spans n.node ≡ with_span (taken w lo) (spans link_at.node)) o
           → IsFound highest (spans_below spans (slice_set links at n) ≡ spans_below spans links) (λ lo. spans_below spans (slice_set links at n) ≡ with_span (taken w lo) (spans_below spans links)) o
-      go Nowhere f = (is ∙ f.0, new ∙ same_own spans w h from before_at link_at behind_at linked_here rising_here n f.1 ∙ sym old)
-      go (At lo) f = (is ∙ f.0, new ∙ same_own spans w h from before_at link_at behind_at linked_here rising_here n f.1 ∙ sym old)
-      go (Taken lo) f = (is ∙ f.0, new ∙ taken_own spans w h from before_at link_at behind_at linked_here rising_here n lo f.0 f.1 ∙ ap (with_span (taken w lo)) (sym old))
+      go Nowhere f = (is ∙ f.0, new ∙ same_own spans w h from before_at link_at behind_at parts_linked parts_rising n f.1 ∙ sym old)
+      go (At lo) f = (is ∙ f.0, new ∙ same_own spans w h from before_at link_at behind_at parts_linked parts_rising n f.1 ∙ sym old)
+      go (Taken lo) f = (is ∙ f.0, new ∙ taken_own spans w h from before_at link_at behind_at parts_linked parts_rising n lo f.0 f.1 ∙ ap (with_span (taken w lo)) (sym old))
 
   pub at_whole : AreAllBelow w.size behind_at → highest_after w from (spans_below spans links) ≡ higher (highest_after w (end_after from (spans_below spans before_at)) (spans link_at.node)) (highest_after w from (spans_below spans before_at))
-  at_whole below = subst (λ l. highest_after w from (spans_below spans l) ≡ higher (highest_after w (end_after from (spans_below spans before_at)) (spans link_at.node)) (highest_after w from (spans_below spans before_at))) (sym parts_here) (whole spans w h from before_at link_at behind_at linked_here rising_here below)
+  at_whole below = subst (λ l. highest_after w from (spans_below spans l) ≡ higher (highest_after w (end_after from (spans_below spans before_at)) (spans link_at.node)) (highest_after w from (spans_below spans before_at))) (sym links_parted) (whole spans w h from before_at link_at behind_at parts_linked parts_rising below)
 
   -- another link in its place
   pub set_linked : (n : Link N) → IsLinked (spans n.node) n.first n.end n.room → (1 ≤ at → room (end_after from (spans_below spans before_at)) n.first ≤ n.room) → n.end ≡ link_at.end → AreLinked spans (slice_set links at n)
   set_linked n own gap end =
-      let i = in_parts spans before_at link_at behind_at linked_here in
+      let i = in_parts spans before_at link_at behind_at parts_linked in
       let m : length before_at ≡ at = length-take-le at links (omega arith) in
       rw (set_at links at n lt) (joined_parts spans before_at n behind_at (record {
         low = i.low;
@@ -216,19 +216,19 @@ module _ {N : Type 0} (spans : N → List Span) (w : Wanted) (h : IsWanted w) (f
   front_behind (k ∷ l) at lt linked rising some = front_whole spans w h from (k ∷ l) at k lt linked rising ∙ rw (behind_is spans w h from (k ∷ l) at k lt linked rising some) refl
 
 -- what was found behind a link is what is sought, where nothing is found behind those above it
-pub found_here : (whole own low : Option ℕ) (same : Type 0) (is_taken : ℕ → Type 0) (o : Found) → (o ≡ Nowhere → ⊥) → whole ≡ higher own low → IsFound own same is_taken o → IsFound whole same is_taken o
-found_here whole own low same is_taken Nowhere some is f = absurd (some refl)
-found_here whole own low same is_taken (At lo) some is f = (is ∙ rw f.0 refl, f.1)
-found_here whole own low same is_taken (Taken lo) some is f = (is ∙ rw f.0 refl, f.1)
+pub found_of_own : (whole own low : Option ℕ) (same : Type 0) (is_taken : ℕ → Type 0) (o : FoundPlace) → (o ≡ Nowhere → ⊥) → whole ≡ higher own low → IsFound own same is_taken o → IsFound whole same is_taken o
+found_of_own whole own low same is_taken Nowhere some is f = absurd (some refl)
+found_of_own whole own low same is_taken (At lo) some is f = (is ∙ rw f.0 refl, f.1)
+found_of_own whole own low same is_taken (Taken lo) some is f = (is ∙ rw f.0 refl, f.1)
 
-pub found_as : (a b : Option ℕ) (same other : List Span) (new : List Span) (w : Wanted) (o : Found) → a ≡ b → same ≡ other → IsFound b (new ≡ same) (λ lo. new ≡ with_span (taken w lo) same) o
+pub found_as : (a b : Option ℕ) (same other : List Span) (new : List Span) (w : Wanted) (o : FoundPlace) → a ≡ b → same ≡ other → IsFound b (new ≡ same) (λ lo. new ≡ with_span (taken w lo) same) o
     → IsFound a (new ≡ other) (λ lo. new ≡ with_span (taken w lo) other) o
 found_as a b same other new w Nowhere p q f = (p ∙ f.0, f.1 ∙ q)
 found_as a b same other new w (At lo) p q f = (p ∙ f.0, f.1 ∙ q)
 found_as a b same other new w (Taken lo) p q f = (p ∙ f.0, f.1 ∙ ap (with_span (taken w lo)) q)
 
 -- no gap has more room once a range was taken from it
-pub room_found : (w : Wanted) (h : IsWanted w) (from : ℕ) (l m : List Span) (o : Found) → IsRisingFrom from l
+pub room_found : (w : Wanted) (h : IsWanted w) (from : ℕ) (l m : List Span) (o : FoundPlace) → IsRisingFrom from l
     → IsFound (highest_after w from l) (m ≡ l) (λ lo. m ≡ with_span (taken w lo) l) o → room_after from m ≤ room_after from l
 room_found w h from l m Nowhere r f = rw f.1 (omega arith)
 room_found w h from l m (At lo) r f = rw f.1 (omega arith)

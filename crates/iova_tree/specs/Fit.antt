@@ -4,8 +4,8 @@ use Rattle.iova_range.specs.declared.limits.TheConstants.{MAX_FRAMES}
 use Rattle.iova_range.specs.Sizes.{align_of}
 use Rattle.iova_tree.specs.Spans.{Span, end_after}
 use Rattle.iova_tree.specs.declared.search.Wanted.{Wanted}
-use Rattle.iova_tree.specs.declared.search.Found.{Found}
-use Rattle.iova_tree.specs.declared.search.Found.TheVariants.{Nowhere, At, Taken}
+use Rattle.iova_tree.specs.declared.search.FoundPlace.{FoundPlace}
+use Rattle.iova_tree.specs.declared.search.FoundPlace.TheVariants.{Nowhere, At, Taken}
 
 -- a request of some frames, at most those that `room` speaks of, with the alignment of its size,
 -- and a cap that a range may end at
@@ -42,7 +42,7 @@ taken w lo = record { lo = lo; end = lo + w.size; window = false }
 
 -- the result of a search that takes what it finds where there is room: nothing fits, or this is the
 -- highest place, which was taken or wasn't
-abbrev pub IsFound : Option ℕ → Type 0 → (ℕ → Type 0) → Found → Type 0
+abbrev pub IsFound : Option ℕ → Type 0 → (ℕ → Type 0) → FoundPlace → Type 0
 IsFound highest is_same is_taken Nowhere = (highest ≡ None) × is_same
 IsFound highest is_same is_taken (At lo) = (highest ≡ Some lo) × is_same
 IsFound highest is_same is_taken (Taken lo) = (highest ≡ Some lo) × is_taken lo

@@ -6,7 +6,7 @@ ghost use Rattle.iova_tree.specs.Fit.{IsWanted, highest_after, taken};
 
 use crate::node::Node;
 use crate::room::{bound_with, room_above, room_of, room_with};
-use crate::search::{Found, Hint, Wanted, place_between};
+use crate::search::{FoundPlace, Hint, Wanted, place_between};
 use crate::span::Span;
 use std::alloc::{AllocError, Global};
 use std::marker::Model;
@@ -81,27 +81,27 @@ impl Node for Block {
         found
     }
 
-    fn take(&mut self, from: u64, wanted: &Wanted, room: &mut u32) -> Found {
+    fn take(&mut self, from: u64, wanted: &Wanted, room: &mut u32) -> FoundPlace {
         if self.spans.is_empty() {
-            return Found::Nowhere;
+            return FoundPlace::Nowhere;
         }
         let start = self.hint.start(self.spans.len(), wanted.size);
         let (found, hint) = highest_of(&self.spans, start, from, wanted);
         self.hint = hint;
         let Some(lo) = found else {
             *room = room_of_all(&self.spans, from, 0, *room);
-            return Found::Nowhere;
+            return FoundPlace::Nowhere;
         };
         if self.is_full() {
-            return Found::At(lo);
+            return FoundPlace::At(lo);
         }
         let span = Span::new(lo, lo + wanted.size, false);
         let Ok(()) = self.spans.insert(hint.at, span) else {
-            return Found::At(lo);
+            return FoundPlace::At(lo);
         };
         self.hint = hint_once_taken(&self.spans, hint);
         *room = room_once_taken(&self.spans, from, self.hint, *room);
-        Found::Taken(lo)
+        FoundPlace::Taken(lo)
     }
 
     fn split(&mut self, alloc: Global, lo: u64) -> Result<Option<Self>, AllocError> {

@@ -10,7 +10,7 @@ ghost use Rattle.iova_tree.specs.Branches.{spans_below, AreLinked, AreAllBelow, 
 
 use crate::node::Node;
 use crate::room::room_with;
-use crate::search::{Found, Hint, Wanted};
+use crate::search::{FoundPlace, Hint, Wanted};
 use crate::span::Span;
 use iova_range::limits::MAX_FRAMES;
 use std::alloc::{AllocError, Global};
@@ -114,9 +114,9 @@ impl<N: Node> Node for Branch<N> {
         highest_of(&self.links, hint.at, from, wanted)
     }
 
-    fn take(&mut self, from: u64, wanted: &Wanted, room: &mut u32) -> Found {
+    fn take(&mut self, from: u64, wanted: &Wanted, room: &mut u32) -> FoundPlace {
         if self.links.is_empty() {
-            return Found::Nowhere;
+            return FoundPlace::Nowhere;
         }
         let hint = last_with_room(&self.links, self.hint, wanted.size);
         self.hint = hint;
@@ -599,7 +599,7 @@ fn take_renewed<N: Node>(
     from: u64,
     wanted: &Wanted,
     room: &mut u32,
-) -> Found
+) -> FoundPlace
     requires within { at < length links.old }
     requires above { AreAllBelow wanted.now.size (drop (at + 1) links.old) }
     requires wanted { IsWanted wanted.now }
@@ -616,17 +616,17 @@ fn take_renewed<N: Node>(
     ensures others { drop (at + 1) links.new ≡ drop (at + 1) links.old }
 {
     match take_highest(links, at, from, wanted) {
-        Found::Nowhere => {}
+        FoundPlace::Nowhere => {}
         found => return found,
     }
     *room = room_of(links, from);
-    Found::Nowhere
+    FoundPlace::Nowhere
 }
 
 // Takes the highest place in a gap below one of the ranges and above `from`, where its block has
 // room for a range. Nothing fits behind the link at this place.
 #[inline]
-fn take_highest<N: Node>(links: &mut [Link<N>], start: usize, from: u64, wanted: &Wanted) -> Found
+fn take_highest<N: Node>(links: &mut [Link<N>], start: usize, from: u64, wanted: &Wanted) -> FoundPlace
     requires within { start < length links.old }
     requires above { AreAllBelow wanted.now.size (drop (start + 1) links.old) }
     requires wanted { IsWanted wanted.now }
@@ -643,7 +643,7 @@ fn take_highest<N: Node>(links: &mut [Link<N>], start: usize, from: u64, wanted:
     let mut at = start;
     while at > 0 {
         match take_at(links, at, wanted) {
-            Found::Nowhere => {}
+            FoundPlace::Nowhere => {}
             found => return found,
         }
         at -= 1;
@@ -655,7 +655,7 @@ fn take_highest<N: Node>(links: &mut [Link<N>], start: usize, from: u64, wanted:
 // isn't the first. Where that lies below all of these, the gap above the ranges of the link before
 // has become shorter, and its bound is renewed.
 #[inline]
-fn take_at<N: Node>(links: &mut [Link<N>], at: usize, wanted: &Wanted) -> Found
+fn take_at<N: Node>(links: &mut [Link<N>], at: usize, wanted: &Wanted) -> FoundPlace
     requires some { 0 < at }
     requires within { at < length links.old }
     requires wanted { IsWanted wanted.now }
@@ -673,7 +673,7 @@ fn take_at<N: Node>(links: &mut [Link<N>], at: usize, wanted: &Wanted) -> Found
     let end = links[at - 1].end;
     let first = links[at].first;
     let found = take_below(&mut links[at], end, wanted);
-    if let Found::Taken(lo) = found {
+    if let FoundPlace::Taken(lo) = found {
         if lo < first {
             let mut room = MOST_ROOM;
             renew_at(links, at - 1, &mut room);
@@ -686,7 +686,7 @@ fn take_at<N: Node>(links: &mut [Link<N>], at: usize, wanted: &Wanted) -> Found
 // Takes the highest place in a gap below one of the ranges behind the first link and above `from`.
 // Its bound is one for the gap below its ranges too, then.
 #[inline]
-fn take_lowest<N: Node>(link: &mut Link<N>, from: u64, wanted: &Wanted) -> Found
+fn take_lowest<N: Node>(link: &mut Link<N>, from: u64, wanted: &Wanted) -> FoundPlace
     requires wanted { IsWanted wanted.now }
     requires some { 1 ≤ from }
     requires linked { IsLinked (N.spans link.old.node) link.old.first link.old.end link.old.room }
@@ -705,7 +705,7 @@ fn take_lowest<N: Node>(link: &mut Link<N>, from: u64, wanted: &Wanted) -> Found
 // Takes the highest place in a gap below one of the ranges behind a link and above `from`. A link
 // below which nothing fits costs no call.
 #[inline(always)]
-fn take_below<N: Node>(link: &mut Link<N>, from: u64, wanted: &Wanted) -> Found
+fn take_below<N: Node>(link: &mut Link<N>, from: u64, wanted: &Wanted) -> FoundPlace
     requires wanted { IsWanted wanted.now }
     requires some { 1 ≤ from }
     requires linked { IsLinked (N.spans link.old.node) link.old.first link.old.end link.old.room }
@@ -720,13 +720,13 @@ fn take_below<N: Node>(link: &mut Link<N>, from: u64, wanted: &Wanted) -> Found
         ≡ with_span (taken wanted.now lo) (N.spans link.old.node)) result }
 {
     if (link.room as u64) < wanted.size {
-        return Found::Nowhere;
+        return FoundPlace::Nowhere;
     }
     if wanted.cap <= from {
-        return Found::Nowhere;
+        return FoundPlace::Nowhere;
     }
     let found = link.node.take(from, wanted, &mut link.room);
-    if let Found::Taken(lo) = found {
+    if let FoundPlace::Taken(lo) = found {
         link.first = link.first.min(lo);
     }
     found

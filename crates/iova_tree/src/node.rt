@@ -7,7 +7,7 @@ ghost use Rattle.iova_tree.specs.Spans.{Span as Seen, first_lo, end_after, room_
 ghost use Rattle.iova_tree.specs.Fit.{IsWanted, IsFound, highest_after, taken};
 ghost use Rattle.iova_tree.specs.Branches.{IsCutOff};
 
-use crate::search::{Found, Wanted};
+use crate::search::{FoundPlace, Wanted};
 use crate::span::Span;
 use std::alloc::{AllocError, Global};
 
@@ -54,7 +54,7 @@ pub trait Node: Drop {
 
     /// Takes the highest place in a gap below one of the ranges and above `from`, where its block
     /// has room for a range. Where nothing fits, it makes the bound the least that is known.
-    fn take(&mut self, from: u64, wanted: &Wanted, room: &mut u32) -> Found
+    fn take(&mut self, from: u64, wanted: &Wanted, room: &mut u32) -> FoundPlace
         requires wanted { IsWanted wanted.now }
         requires some { 1 ≤ from }
         requires rising { IsRisingFrom from (spans self.old) }

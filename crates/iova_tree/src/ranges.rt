@@ -10,7 +10,7 @@ use crate::block::Block;
 use crate::branch::{Branch, MOST_ROOM};
 use crate::node::Node;
 use crate::room::room_with;
-use crate::search::{Found, Wanted, place_in};
+use crate::search::{FoundPlace, Wanted, place_in};
 use crate::span::Span;
 use std::alloc::{AllocError, Global};
 use std::marker::Model;
@@ -120,7 +120,7 @@ impl Ranges {
 
     /// Takes the highest place from `start` on, where it lies below a range whose block has room
     /// for one more.
-    pub fn take_highest(&mut self, start: u64, wanted: &Wanted) -> Found
+    pub fn take_highest(&mut self, start: u64, wanted: &Wanted) -> FoundPlace
         requires wanted { IsWanted wanted.now }
         requires some { 1 ≤ start }
         requires rising { IsRisingFrom start self.old }
@@ -128,11 +128,11 @@ impl Ranges {
             (λ lo. self.new ≡ with_span (taken wanted.now lo) self.old) result }
     {
         if let Some(lo) = place_in(self.end_or(start), wanted.cap, wanted) {
-            return Found::At(lo);
+            return FoundPlace::At(lo);
         }
         self.room = self.room_from(start);
         if (self.room as u64) < wanted.size {
-            return Found::Nowhere;
+            return FoundPlace::Nowhere;
         }
         self.root.take(start, wanted, &mut self.room)
     }

@@ -15,7 +15,7 @@ pub struct Wanted {
 
 /// The result of a search that takes the place it finds, where there is room for the range.
 #[derive(Clone, Copy)]
-pub enum Found {
+pub enum FoundPlace {
     /// Nothing fits.
     Nowhere,
     /// This is the highest place. There is no room for one range more in its block, and nothing has

@@ -8,7 +8,7 @@ ghost use Rattle.iova_model.specs.Next.{from_to, union, windows_with};
 ghost use Rattle.iova_tree.specs.Space.{Space, ranges_of, IsInside, IsFree, IsSpace, with_window, reserve_refusal, clear_of};
 
 use crate::ranges::Ranges;
-use crate::search::{Found, Wanted};
+use crate::search::{FoundPlace, Wanted};
 use crate::span::Span;
 use crate::window::{absorb, count_clear, insert_window};
 use iova_range::bounds::Bounds;
@@ -127,9 +127,9 @@ impl Tree {
             cap: limit.min(last) + 1,
         };
         match self.ranges.take_highest(self.bounds.start(), &wanted) {
-            Found::Nowhere => Ok(None),
-            Found::Taken(lo) => Ok(Some(Range::new(lo, size))),
-            Found::At(lo) => {
+            FoundPlace::Nowhere => Ok(None),
+            FoundPlace::Taken(lo) => Ok(Some(Range::new(lo, size))),
+            FoundPlace::At(lo) => {
                 let range = Range::new(lo, size);
                 let Ok(()) = self.insert(range) else {
                     return Err(Refusal::NoMemory);

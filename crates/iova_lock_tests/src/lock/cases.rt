@@ -1,8 +1,8 @@
 //! What is asked, and what is to be answered.
 
-use crate::lock::act::Act::*;
-use crate::lock::act::Row;
-use crate::lock::act::Want::*;
+use crate::lock::action::Action::*;
+use crate::lock::action::Row;
+use crate::lock::action::Want::*;
 use crate::lock::random::LAST;
 use crate::lock::releases::{
     RELEASED, RELEASED_AT_A_FULL_RING, RELEASED_BESIDE_A_FLUSH, RELEASED_WITH_A_FAULT,

@@ -3,7 +3,7 @@
 //! given.
 ghost use Rattle.std.specs.Prelude.{◌<◌};
 
-use crate::lock::act::{Act, answer, said};
+use crate::lock::action::{Action, answer, said};
 use iova_keep::ask::Ask;
 use iova_keep::keep::Keep;
 use iova_keep::names::Names;
@@ -52,16 +52,16 @@ impl Script {
         self.below(4) as usize
     }
 
-    // Asks for an act, over a sink that mostly fails at its first call.
+    // Asks for an action, over a sink that mostly fails at its first call.
     fn ask<B: Names, K: Keep<B>, R: Abort>(
         &mut self,
         rt: &R,
         keeper: &mut K,
         seat: &mut Seat<B>,
-        act: &Act<'_>,
+        action: &Action<'_>,
     ) {
         let fail_at = [0, 1, 1, 2][self.below(4) as usize];
-        let text = answer(rt, self.alloc, keeper, seat, fail_at, act);
+        let text = answer(rt, self.alloc, keeper, seat, fail_at, action);
         self.said.push(text).expect(rt, "memory");
     }
 
@@ -107,7 +107,7 @@ impl Script {
         requires { place < 4 }
     {
         let id = self.clients[place];
-        self.ask(rt, keeper, seat, &Act::EndClient(id));
+        self.ask(rt, keeper, seat, &Action::EndClient(id));
         if let Some(text) = self.said.last() {
             if text.starts_with("ended Ok(Ended(") {
                 self.open(rt, keeper, seat, place);
@@ -128,12 +128,12 @@ impl Script {
         let by = [0, 1, 16][self.below(3) as usize];
         match self.below(16) {
             0 => {
-                self.ask(rt, keeper, seat, &Act::Flush);
-                self.ask(rt, keeper, seat, &Act::DrainAll(by));
+                self.ask(rt, keeper, seat, &Action::Flush);
+                self.ask(rt, keeper, seat, &Action::DrainAll(by));
             }
-            1 => self.ask(rt, keeper, seat, &Act::Timeout),
+            1 => self.ask(rt, keeper, seat, &Action::Timeout),
             2..=8 => self.end(rt, keeper, seat, place),
-            _ => self.ask(rt, keeper, seat, &Act::DrainAll(by)),
+            _ => self.ask(rt, keeper, seat, &Action::DrainAll(by)),
         }
     }
 
@@ -154,14 +154,14 @@ impl Script {
         ];
         match self.below(128) {
             0 => self.other(rt, keeper, seat, place),
-            n if n < 76 => self.ask(rt, keeper, seat, &Act::Alloc(id, frames, limit)),
-            n if n < 84 => self.ask(rt, keeper, seat, &Act::Batch(id, &asks)),
-            n if n < 106 => self.ask(rt, keeper, seat, &Act::Release(id, lo)),
-            n if n < 108 => self.ask(rt, keeper, seat, &Act::Holdings(id)),
-            _ => self.ask(rt, keeper, seat, &Act::Unmap(id, lo)),
+            n if n < 76 => self.ask(rt, keeper, seat, &Action::Alloc(id, frames, limit)),
+            n if n < 84 => self.ask(rt, keeper, seat, &Action::Batch(id, &asks)),
+            n if n < 106 => self.ask(rt, keeper, seat, &Action::Release(id, lo)),
+            n if n < 108 => self.ask(rt, keeper, seat, &Action::Holdings(id)),
+            _ => self.ask(rt, keeper, seat, &Action::Unmap(id, lo)),
         }
-        self.ask(rt, keeper, seat, &Act::Stat);
-        self.ask(rt, keeper, seat, &Act::Totals);
+        self.ask(rt, keeper, seat, &Action::Stat);
+        self.ask(rt, keeper, seat, &Action::Totals);
     }
 }
 

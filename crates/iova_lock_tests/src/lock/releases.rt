@@ -1,9 +1,9 @@
 //! What is released, which frees a range at once where the domain is strict, and what is to be
 //! answered.
 
-use crate::lock::act::Act::*;
-use crate::lock::act::Row;
-use crate::lock::act::Want::*;
+use crate::lock::action::Action::*;
+use crate::lock::action::Row;
+use crate::lock::action::Want::*;
 
 // A range is freed at once where the domain is strict, and its frame is given again; else it waits.
 pub(crate) const RELEASED: &[Row] = &[

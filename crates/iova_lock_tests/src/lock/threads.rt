@@ -1,6 +1,6 @@
 //! Seats in threads of their own: beside a flusher, and beside flushes that wait in their sinks.
 
-use crate::lock::act;
+use crate::lock::action;
 use crate::lock::cases::FlushesInFlight;
 use iova_keep::calls;
 use iova_keep::keep::Keep;
@@ -142,7 +142,7 @@ fn ask_beside<B: Names, K: Keep<B> + Copy, R: Abort>(
         thread::yield_now();
     }
     assert_eq!(rt; keeper.stat().start, case.flushes);
-    act::run(rt, alloc, &mut keeper, &mut seat, false, case.beside);
+    action::run(rt, alloc, &mut keeper, &mut seat, false, case.beside);
     open.raise();
     seat
 }
@@ -156,7 +156,7 @@ pub(crate) fn beside_flushes<
 >(rt: &R, alloc: Global, keeper: K, seat: Seat<B>, case: &FlushesInFlight) -> Seat<B> {
     let mut keeper = keeper;
     let mut seat = seat;
-    act::run(rt, alloc, &mut keeper, &mut seat, false, case.before);
+    action::run(rt, alloc, &mut keeper, &mut seat, false, case.before);
     let tallies = split_off(rt, alloc, &mut seat, case.flushes);
     let inside = Flag::new();
     let open = Flag::new();
@@ -174,6 +174,6 @@ pub(crate) fn beside_flushes<
     for flush in &flushed.expect(rt, "memory") {
         assert!(rt; flush.is_ok());
     }
-    act::run(rt, alloc, &mut keeper, &mut seat, false, case.after);
+    action::run(rt, alloc, &mut keeper, &mut seat, false, case.after);
     seat
 }

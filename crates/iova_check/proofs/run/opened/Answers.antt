@@ -1,7 +1,7 @@
 use Rattle.std.proofs.Common.{ℕ}
 use Rattle.std.specs.Prelude.{unwrap_or}
 use Rattle.iova_check.specs.Allowing.{Allows}
-use Rattle.iova_check.specs.Bounds.{bounds_asked}
+use Rattle.iova_check.specs.AllowedBounds.{bounds_asked}
 use Rattle.iova_check.proofs.AllowedFrames.{moved}
 use Rattle.iova_check.proofs.run.opened.Goals as goal
 

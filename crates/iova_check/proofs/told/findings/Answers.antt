@@ -4,7 +4,7 @@ use Rattle.iova_check.specs.declared.event.Event.{Event}
 use Rattle.iova_check.specs.declared.stage.Stage.{Stage}
 use Rattle.iova_check.specs.declared.stage.OpenFlush.{OpenFlush}
 use Rattle.iova_check.specs.declared.finding.Finding.{Finding}
-use Rattle.iova_check.specs.Bounds.{Bounds}
+use Rattle.iova_check.specs.AllowedBounds.{AllowedBounds}
 use Rattle.iova_check.specs.declared.tracker.Tracker.{Tracker}
 use Rattle.iova_check.specs.History.{flight_of, stage_of}
 use Rattle.iova_check.specs.Marks.{stage_at}
@@ -16,7 +16,7 @@ use Rattle.iova_check.proofs.Reuses.{breaks_told}
 use Rattle.iova_check.proofs.told.findings.Goals as goal
 
 -- what the tracker knows are the stages and the flushes in flight
-followed : (past : List Event) (t : Tracker) (bounds : Bounds) (e : Event) (fs : List (Option Finding)) → Follows past t
+followed : (past : List Event) (t : Tracker) (bounds : AllowedBounds) (e : Event) (fs : List (Option Finding)) → Follows past t
     → AreFindings bounds (stage_at t.stages) (get nat_cmp t.flights) e fs → AreFindings bounds (stage_of past) (flight_of past) e fs
 followed past t bounds e fs follows h =
     let P : (ℕ → Stage) → Type 0 = λ at. AreFindings bounds at (get nat_cmp t.flights) e fs in

@@ -1,5 +1,5 @@
 use Rattle.std.proofs.Common.{◌≡◌, ◌+◌, ◌-◌, slice_set, ap, ◌∙◌, arith}
-use Rattle.iova_tree.specs.declared.search.Found.TheVariants.{Taken}
+use Rattle.iova_tree.specs.declared.search.FoundPlace.TheVariants.{Taken}
 use Rattle.iova_tree.specs.Branches.{spans_below, highest_behind}
 use Rattle.iova_tree.proofs.Spans.{rising-end, rising-weaken}
 use Rattle.iova_tree.proofs.Blocks.{room_between-bounded}

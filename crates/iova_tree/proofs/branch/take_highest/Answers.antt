@@ -6,7 +6,7 @@ use Rattle.iova_tree.proofs.Spans.{rising-weaken}
 use Rattle.iova_tree.proofs.Fits.{higher-none}
 use Rattle.iova_tree.proofs.Branches.{drop_behind}
 use Rattle.iova_tree.proofs.Bounds.{drop_later}
-use Rattle.iova_tree.proofs.Searched.{at_rising, front_whole, start_whole, front_behind, set_linked, set_own, found_here, found_as}
+use Rattle.iova_tree.proofs.Searched.{at_rising, front_whole, start_whole, front_behind, set_linked, set_own, found_of_own, found_as}
 use Rattle.iova_tree.proofs.branch.take_highest.Goals as goal
 
 pub loop-at-init : goal.loop-at-init
@@ -24,7 +24,7 @@ returns-in_default-clause-found g c =
     let rising : IsRisingFrom c.args.from (spans_below g.N.Node.spans c.loop-at.links) = rw c.loop-at.invariant.2 c.requires.rising in
     let front = front_behind g.N.Node.spans c.args.wanted.now c.requires.wanted c.args.from c.loop-at.links c.loop-at.at c.loop-at.invariant.0 c.loop-at.invariant.1 rising (omega (arith, c.loop-at-test.true)) in
     let whole = c.loop-at.invariant.3 ∙ front in
-    let here = found_here _ _ _ _ _ c.take_at.result c.in_default.not-Nowhere whole c.take_at.ensures.found in
+    let here = found_of_own _ _ _ _ _ c.take_at.result c.in_default.not-Nowhere whole c.take_at.ensures.found in
     found_as _ _ (spans_below g.N.Node.spans c.loop-at.links) (spans_below g.N.Node.spans c.args.links.now) (spans_below g.N.Node.spans c.take_at.new.links) c.args.wanted.now c.take_at.result refl c.loop-at.invariant.2 here
 
 pub returns-in_default-clause-others : goal.returns-in_default-clause-others

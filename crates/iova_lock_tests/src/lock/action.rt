@@ -18,7 +18,7 @@ use std::test::*;
 /// A call by a seat, or what is read of the seat or of its domain. A number is a client's first,
 /// where there is one.
 #[derive(Drop)]
-pub(crate) enum Act<'a> {
+pub(crate) enum Action<'a> {
     Number,
     /// Whether the client is `sac`.
     Open(bool),
@@ -48,15 +48,15 @@ pub(crate) enum Act<'a> {
     Counts,
 }
 
-/// What an act is to be answered.
+/// What an action is to be answered.
 pub(crate) enum Want {
     Always(&'static str),
     /// In a domain that isn't strict, and in one that is.
     Either(&'static str, &'static str),
 }
 
-/// The call of the sink that fails, 0 where none does; the act; what it is to be answered.
-pub(crate) type Row = (u64, Act<'static>, Want);
+/// The call of the sink that fails, 0 where none does; the action; what it is to be answered.
+pub(crate) type Row = (u64, Action<'static>, Want);
 
 // What a call was answered.
 pub(crate) fn said<T: Debug, R: Abort>(rt: &R, alloc: Global, call: &str, answer: &T) -> String {
@@ -144,67 +144,67 @@ fn counts<B: Names, K: Keep<B>, R: Abort>(
     )
 }
 
-// What an act is answered, over a sink that fails at its `fail_at`-th call.
+// What an action is answered, over a sink that fails at its `fail_at`-th call.
 pub(crate) fn answer<B: Names, K: Keep<B>, R: Abort>(
     rt: &R,
     alloc: Global,
     keeper: &mut K,
     seat: &mut Seat<B>,
     fail_at: u64,
-    act: &Act<'_>,
+    action: &Action<'_>,
 ) -> String {
     let mut sink = MemorySink::new(fail_at);
-    match *act {
-        Act::Number => said(rt, alloc, "number", &keeper.number()),
-        Act::Open(sac) => said(rt, alloc, "opened", &keeper.open(seat, sac)),
-        Act::Alloc(id, frames, limit) => {
+    match *action {
+        Action::Number => said(rt, alloc, "number", &keeper.number()),
+        Action::Open(sac) => said(rt, alloc, "opened", &keeper.open(seat, sac)),
+        Action::Alloc(id, frames, limit) => {
             said(rt, alloc, "given", &keeper.alloc(seat, id, frames, limit))
         }
-        Act::Fill(id, ranges, frees) => said(
+        Action::Fill(id, ranges, frees) => said(
             rt,
             alloc,
             "filled",
             &fill(keeper, seat, id, ranges, frees),
         ),
-        Act::Unmap(id, lo) => said(
+        Action::Unmap(id, lo) => said(
             rt,
             alloc,
             "unmapped",
             &calls::unmap(keeper, seat, &mut sink, id, lo),
         ),
-        Act::Release(id, lo) => said(
+        Action::Release(id, lo) => said(
             rt,
             alloc,
             "released",
             &release(keeper, seat, &mut sink, id, lo),
         ),
-        Act::Batch(id, asks) => batch(rt, alloc, keeper, seat, id, asks),
-        Act::Holdings(id) => holdings(rt, alloc, keeper, seat, id),
-        Act::EndClient(id) => said(rt, alloc, "ended", &end_client(keeper, seat, &mut sink, id)),
-        Act::Flush => said(
+        Action::Batch(id, asks) => batch(rt, alloc, keeper, seat, id, asks),
+        Action::Holdings(id) => holdings(rt, alloc, keeper, seat, id),
+        Action::EndClient(id) => said(rt, alloc, "ended", &end_client(keeper, seat, &mut sink, id)),
+        Action::Flush => said(
             rt,
             alloc,
             "flushed",
             &calls::flush(keeper, seat.tally(), &mut sink),
         ),
-        Act::Timeout => said(
+        Action::Timeout => said(
             rt,
             alloc,
             "timed_out",
             &calls::timeout(keeper, seat.tally(), &mut sink),
         ),
-        Act::Begin(flushes) => begin(rt, alloc, keeper, seat, flushes),
-        Act::End(no) => said(
+        Action::Begin(flushes) => begin(rt, alloc, keeper, seat, flushes),
+        Action::End(no) => said(
             rt,
             alloc,
             "flush",
             &keeper.end(seat.tally(), no, true).reply,
         ),
-        Act::DrainAll(by) => said(rt, alloc, "drained", &keeper.drain_all(by)),
-        Act::Seat => said(rt, alloc, "seat", &(seat.held(), seat.tally().good())),
-        Act::Totals => said(rt, alloc, "totals", &keeper.totals()),
-        Act::Stat => stat(rt, alloc, keeper),
-        Act::Counts => counts(rt, alloc, keeper, seat),
+        Action::DrainAll(by) => said(rt, alloc, "drained", &keeper.drain_all(by)),
+        Action::Seat => said(rt, alloc, "seat", &(seat.held(), seat.tally().good())),
+        Action::Totals => said(rt, alloc, "totals", &keeper.totals()),
+        Action::Stat => stat(rt, alloc, keeper),
+        Action::Counts => counts(rt, alloc, keeper, seat),
     }
 }
 
@@ -217,8 +217,8 @@ pub(crate) fn run<B: Names, K: Keep<B>, R: Abort>(
     strict: bool,
     rows: &[Row],
 ) {
-    for (fail_at, act, want) in rows {
-        let text = answer(rt, alloc, keeper, seat, *fail_at, act);
+    for (fail_at, action, want) in rows {
+        let text = answer(rt, alloc, keeper, seat, *fail_at, action);
         let want = match want {
             Want::Always(want) => want,
             Want::Either(plain, of_strict) => if strict { of_strict } else { plain },

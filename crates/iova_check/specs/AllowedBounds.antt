@@ -5,13 +5,13 @@ use Rattle.iova_check.specs.declared.allowed.LogBounds.{LogBounds}
 
 -- those from the first to the last one that are in none of the windows: none at all where the first
 -- is above the last
-pub record Bounds : Type 0 where
+pub record AllowedBounds : Type 0 where
   pub first : ℕ
   pub last : ℕ
   pub windows : List Frames
 
 -- what is asked for, from and to these frames where nothing else is
-abbrev pub bounds_asked : LogBounds → ℕ → ℕ → Bounds
+abbrev pub bounds_asked : LogBounds → ℕ → ℕ → AllowedBounds
 bounds_asked asked first last =
     record {
       first = unwrap_or asked.first first;
