@@ -3,7 +3,7 @@ use Rattle.std.proofs.Common.{ℕ, ◌≡◌, ◌∙◌, ◌+◌, ◌≤◌, Lis
 use Rattle.iova_sink.specs.Calls.{Call, good_calls}
 use Rattle.iova_keep.specs.Views.{Identity, SeatState, KeepsPlace}
 use Rattle.iova_session.specs.declared.session_limits.SessionLimits.{SessionLimits}
-use Rattle.iova_session.specs.OneByOne.{Between}
+use Rattle.iova_session.specs.PostSessions.{Between}
 use Rattle.iova_daemon.specs.SessionThreads.{ServesOnThread, tries, serves, ServesSession, IsTried}
 
 -- a place that nothing was done at

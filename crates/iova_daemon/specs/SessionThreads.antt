@@ -8,7 +8,7 @@ use Rattle.iova_session.specs.declared.session_limits.SessionLimits.{SessionLimi
 use Rattle.iova_session.specs.Desks.{AreAnswers, client_after}
 use Rattle.iova_session.specs.Domains.{LeavesOthers}
 use Rattle.iova_session.specs.Leading.{SessionLeads}
-use Rattle.iova_session.specs.OneByOne.{Between}
+use Rattle.iova_session.specs.PostSessions.{Between}
 use Rattle.iova_session.specs.Pairs.{Pair}
 use Rattle.iova_session.specs.Posts.{EndsClient, IsSublist, RetriesAll}
 use Rattle.iova_session.specs.Sessions.{ServesWithin}

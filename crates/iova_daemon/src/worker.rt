@@ -2,7 +2,7 @@
 ghost use Rattle.std.specs.Prelude.{◌≡◌, Option};
 ghost use Rattle.iova_model.specs.State.{State};
 ghost use Rattle.iova_keep.specs.Views.{KeepsPlace};
-ghost use Rattle.iova_session.specs.OneByOne.{between};
+ghost use Rattle.iova_session.specs.PostSessions.{between};
 ghost use Rattle.iova_daemon.specs.SessionThreads.{ServesOnThread, IsTried};
 
 use crate::Serving;

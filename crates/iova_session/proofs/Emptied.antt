@@ -2,7 +2,6 @@
 use Rattle.std.proofs.Common.{ℕ, zero, suc, ◌≡◌, ◌≢◌, ◌+◌, ◌<◌, ◌≤◌, ◌⊎◌, inl, inr, Bool, true, false, List, [], ◌∷◌, ◌++◌, Option, Some, None, refl, sym, ap, ◌∙◌, subst, arith, length}
 use Rattle.std.specs.Prelude.{Result, Ok, Err, Contains, IfSome, slice_index_or, option_and_then}
 use Rattle.std.specs.List.{AllByRecursion}
-use Rattle.std.proofs.Math.Logic.{∥∥₁_map}
 use Rattle.std.proofs.lemmas.Bool.{cases_eq}
 use Rattle.std.proofs.lemmas.Bool.Decides.{nat_tests}
 use Rattle.iova_range.specs.Frames.{Frames}
@@ -17,8 +16,7 @@ use Rattle.iova_session.specs.declared.leaving.Leaving.{Leaving}
 use Rattle.iova_session.specs.declared.leaving.Attempt.{Attempt}
 use Rattle.iova_session.specs.Leaving.{IsTold, EndsAfter, Attempts}
 use Rattle.iova_session.specs.Posts.{Retries, RetriesAll, kept_if}
-use Rattle.iova_session.specs.Gone.{IsOneOf, IsAlone, StaysAlone, HasRoom, HasFlushNumbers, NoneFailed, EndsAll, EndsWhereGood}
-use Rattle.iova_session.specs.OneByOne.{Between, EndsAllBehind}
+use Rattle.iova_session.specs.Gone.{IsOneOf, EndsAll, EndsWhereGood}
 use Rattle.iova_session.proofs.Gone.{forgotten_is_gone}
 use Rattle.iova_session.proofs.LoneEnds.{Calm, lone_end, end_rises, failed_append}
 
@@ -70,7 +68,7 @@ unseen_step w id ids x cs false e none first above further =
     let rest : client_of w id cs ≡ None = rw e at none in
     (is_other w id ids x (other_id id x e) first, further rest)
 
-pub unseen_others : (w id low : ℕ) (ids : List ℕ) (cs : List Client) (top : ℕ) → SerialsRise low cs top → client_of w id cs ≡ None → AllByRecursion (IsOneOf w (id ∷ ids)) cs → AllByRecursion (IsOneOf w ids) cs
+unseen_others : (w id low : ℕ) (ids : List ℕ) (cs : List Client) (top : ℕ) → SerialsRise low cs top → client_of w id cs ≡ None → AllByRecursion (IsOneOf w (id ∷ ids)) cs → AllByRecursion (IsOneOf w ids) cs
 unseen_others w id low ids [] top rise none each = tt
 unseen_others w id low ids (x ∷ cs) top rise none each =
     unseen_step w id ids x cs (has_id id x) refl none each.0 (λ le. above_others w id x.id ids cs top rise.1 le each.1) (λ rest. unseen_others w id x.id ids cs top rise.1 rest each.1)
@@ -228,27 +226,3 @@ module _ (law : StepsKeepValidity) (number : ℕ) where
   ends_where_good room ids kept seat left before now None p known h = tt
   ends_where_good room ids kept seat left before now (Some s) None known h = absurd h
   ends_where_good room ids kept seat left before now (Some s) (Some t) known h = all_end room ids kept seat left before now s t known h
-
-  -- Behind sessions: where one waits there is room.
-
-  all_end_in_room : (room : ℕ) (ids kept : List ℕ) (seat left : SeatState) (before now : List Call) (s t : State) → IsKept s → RetriesAll room number ids kept seat left before now s t
-      → IsAlone seat ids s → HasRoom ids room → HasFlushNumbers s → NoneFailed before now → EndsAll seat.worker ids kept t
-  all_end_in_room room [] kept seat left before now s t known (over, few, h) alone has numbers good =
-      (round_ends [] kept seat left before now s t (record { valid = known.valid; shares = alone.shares; quiet = alone.quiet; numbers = numbers }) alone.holders good h).ends
-  all_end_in_room room (id ∷ ids) kept seat left before now s t known h alone has numbers good =
-      all_end room (id ∷ ids) kept seat left before now s t known h alone (record { room = has (λ e. cc); flushes = numbers }) good
-
-  pub end_behind : (room space : ℕ) (a mid b : Between) → IfSome mid.domain IsKept → (HasRoom a.waiting room → HasRoom mid.waiting space) → mid.seat.worker ≡ a.seat.worker
-      → WhereKnown mid.domain b.domain (RetriesAll space number mid.waiting b.waiting mid.seat b.seat mid.calls b.calls)
-      → ∥ WhereKnown a.domain mid.domain (StaysAlone a.seat mid.seat a.waiting mid.waiting) ∥₁ → ∥ WhereKnown a.domain b.domain (EndsAllBehind room a mid b) ∥₁
-  end_behind room space a mid b known roomy worker tried stays = ∥∥₁_map stays (λ g. ends a.domain mid.domain b.domain g known tried)
-    where
-      ends : (o m p : Option State) → WhereKnown o m (StaysAlone a.seat mid.seat a.waiting mid.waiting) → IfSome m IsKept
-          → WhereKnown m p (RetriesAll space number mid.waiting b.waiting mid.seat b.seat mid.calls b.calls)
-          → WhereKnown o p (λ s t. IsAlone a.seat a.waiting s → HasRoom a.waiting room → IfSome m HasFlushNumbers → NoneFailed mid.calls b.calls → EndsAll a.seat.worker mid.waiting b.waiting t)
-      ends None m p g k r = tt
-      ends (Some s) None p g k r = absurd g
-      ends (Some s) (Some x) None g k r = absurd r
-      ends (Some s) (Some x) (Some t) g k r = λ alone has numbers good.
-          subst (λ (w : ℕ). EndsAll w mid.waiting b.waiting t) worker
-          (all_end_in_room space mid.waiting b.waiting mid.seat b.seat mid.calls b.calls x t k r (g alone) (roomy has) numbers good)

@@ -1,6 +1,6 @@
 -- A client whose end is reported as `Ended` is gone.
 use Rattle.std.proofs.Common.{ℕ, ◌≡◌, ◌+◌, ◌≤◌, Bool, true, false, List, [], ◌∷◌, ◌++◌, Option, Some, None, refl, sym, ap, ◌∙◌, subst, arith}
-use Rattle.std.specs.Prelude.{Result, Ok, Err, length, option_and_then, nat_le}
+use Rattle.std.specs.Prelude.{Result, Ok, length, option_and_then, nat_le}
 use Rattle.iova_range.specs.declared.limits.TheConstants.{MAX_ENTRIES}
 use Rattle.std.proofs.lemmas.Bool.{cond_both}
 use Rattle.std.proofs.lemmas.Bool.Decides.{nat_tests}
@@ -23,7 +23,6 @@ use Rattle.iova_keep.specs.declared.ending.Ending.{Ending}
 use Rattle.iova_keep.specs.declared.ending.Ending.TheVariants as ending
 use Rattle.iova_keep.specs.Steps.{Takes}
 use Rattle.iova_keep.specs.Views.{IsUnknown}
-use Rattle.iova_session.specs.Leaving.{still_waits}
 use Rattle.iova_keep.specs.Events.{CallEvent, Ran, NotRun, Invalidated, Leads, run, not_run, Closing, stops, queues, CloseFirst, closed, closed_full, CloseAgain, closed_again, full_none_queued, full_again, CloseRest, last, another, Answered, ended, unknown, gone, EndClient, in_one_hold, in_more}
 
 -- what is at most the lower bound is no client's serial
@@ -55,23 +54,23 @@ full_is_known e u same = let h = same ∙ ap reply.Refused u in cc
 short_is_known : (e : Refusal) → IsUnknown e → ◌≡◌ {A = Reply} (reply.Refused refusal.NotHeld) (reply.Refused e) → ⊥
 short_is_known e u same = let h = same ∙ ap reply.Refused u in cc
 
--- What the reply to a closing says of the client: gone where it is `Empty`, none of the worker's where it is refused by
--- `NoClient`, there where a range was queued or the ring is full; and it is known where it was there.
+-- What the reply to a closing says of the client: gone where it is `Empty`, there where a range was queued or the ring is full; and
+-- it is known where it was there.
 abbrev Says : ℕ → ℕ → State → Reply → State → Type 0
 Says w id s reply.Empty t = client_with id t.clients ≡ None
 Says w id s (reply.Queued q) t = IsThere w id t
-Says w id s (reply.Refused e) t = (e ≡ refusal.RingFull → IsThere w id t) × (e ≡ refusal.NoClient → client_of w id t.clients ≡ None) × (IsThere w id s → IsUnknown e → ⊥)
+Says w id s (reply.Refused e) t = (e ≡ refusal.RingFull → IsThere w id t) × (IsThere w id s → IsUnknown e → ⊥)
 Says w id s r t = Unit {0}
 
 module _ (s : State) (w id : ℕ) (rise : SerialsRise 0 s.clients s.serial) where
   no_worker_says : Next.no_worker s w ≡ true → Says w id s (reply.Refused refusal.NoWorker) s
-  no_worker_says b = ((λ e. absurd cc), (λ e. absurd cc), (λ there u. let both : true ≡ false = sym b ∙ there.worker in cc))
+  no_worker_says b = ((λ e. absurd cc), (λ there u. let both : true ≡ false = sym b ∙ there.worker in cc))
 
   no_client_says : client_of w id s.clients ≡ None → Says w id s (reply.Refused refusal.NoClient) s
-  no_client_says none = ((λ e. absurd cc), (λ e. none), (λ there u. let both : None ≡ Some there.client = sym none ∙ found_there w id s there in cc))
+  no_client_says none = ((λ e. absurd cc), (λ there u. let both : None ≡ Some there.client = sym none ∙ found_there w id s there in cc))
 
   full_says : (t : State) → IsThere w id t → Says w id s (reply.Refused refusal.RingFull) t
-  full_says t there = ((λ e. there), (λ e. absurd cc), (λ was u. full_is_known refusal.RingFull u refl))
+  full_says t there = ((λ e. there), (λ was u. full_is_known refusal.RingFull u refl))
 
   lowest_says : (c : Client) → client_of w id s.clients ≡ Some c → Next.no_worker s w ≡ false → (rs : List Frames)
       → Says w id s (Next.close_lowest rs s w id).reply (Next.close_lowest rs s w id).state
@@ -128,7 +127,6 @@ record Hears (w id : ℕ) (s : State) (o : Option Reply) (held left : Totals) (t
   valid : IsValid t
   gone : o ≡ Some reply.Empty → client_with id t.clients ≡ None
   full : o ≡ Some (reply.Refused refusal.RingFull) → IsThere w id t
-  unknown : o ≡ Some (reply.Refused refusal.NoClient) → client_of w id t.clients ≡ None
   same : (e : Refusal) → IsUnknown e → o ≡ Some (reply.Refused e) → left ≡ held
   known : IsThere w id s → (e : Refusal) → IsUnknown e → o ≡ Some (reply.Refused e) → ⊥
 
@@ -144,15 +142,13 @@ module _ (law : StepsKeepValidity) (w id : ℕ) where
         valid = now;
         gone = λ e. there reply.Empty (some_reply e);
         full = λ e. (there (reply.Refused refusal.RingFull) (some_reply e)).0 refl;
-        unknown = λ e. (there (reply.Refused refusal.NoClient) (some_reply e)).1 refl;
         same = λ e u is. even;
-        known = λ was e u is. (there (reply.Refused e) (some_reply is)).2 was u;
+        known = λ was e u is. (there (reply.Refused e) (some_reply is)).1 was u;
       })
   closing_hears s t (stops held left r es even other not_run) valid l = record {
     valid = subst IsValid (sym l.1) valid;
     gone = λ e. absurd cc;
     full = λ e. absurd cc;
-    unknown = λ e. absurd cc;
     same = λ e u is. even;
     known = λ was e u is. short_is_known e u (some_reply is);
   }
@@ -163,7 +159,6 @@ module _ (law : StepsKeepValidity) (w id : ℕ) where
         valid = rest.valid;
         gone = rest.gone;
         full = rest.full;
-        unknown = rest.unknown;
         same = λ e u is. absurd (rest.known there e u is);
         known = λ was e u is. rest.known there e u is;
       }
@@ -178,7 +173,6 @@ module _ (law : StepsKeepValidity) (w id : ℕ) where
         valid = takes_valid law h.0 step.Begin begin h.2.0 before.valid h.2.1;
         gone = λ e. absurd cc;
         full = λ e. begin_there h.0 w id begin h.2.0 h.2.1 (before.full refl);
-        unknown = λ e. absurd cc;
         same = before.same;
         known = before.known;
       })
@@ -193,7 +187,6 @@ module _ (law : StepsKeepValidity) (w id : ℕ) where
     valid = rest.valid;
     gone = rest.gone;
     full = rest.full;
-    unknown = rest.unknown;
     same = rest.same;
     known = λ was e u is. rest.known (end_there s w id n ok end m h was) e u is;
   }
@@ -209,11 +202,10 @@ module _ (law : StepsKeepValidity) (w id : ℕ) where
   -- what all further holds say of a client that was there
   record Rests (o : Option Reply) (t : State) : Type 0 where
     gone : o ≡ Some reply.Empty → client_with id t.clients ≡ None
-    unknown : o ≡ Some (reply.Refused refusal.NoClient) → client_of w id t.clients ≡ None
     known : (e : Refusal) → IsUnknown e → o ≡ Some (reply.Refused e) → ⊥
 
   rest_hears : {n : ℕ} {held left : Totals} {ok : Bool} {o b : Option Reply} {es : List CallEvent} (s t : State) → CloseRest (step.CloseOne w id) n held left ok o b es → IsValid s → IsThere w id s → Leads s es t → Rests o t
-  rest_hears s t (last n ok held left o b es k) valid there l = let h = again_hears s t k valid l in record { gone = h.gone; unknown = h.unknown; known = h.known there }
+  rest_hears s t (last n ok held left o b es k) valid there l = let h = again_hears s t k valid l in record { gone = h.gone; known = h.known there }
   rest_hears s t (another n m ok well held mid left o b es fs a c) valid there l =
       let split = leads_split es fs s t l in
       let h = again_hears s split.0 a valid split.1 in
@@ -239,24 +231,3 @@ module _ (law : StepsKeepValidity) (w id : ℕ) where
       let h = first_hears s split.0 c valid split.1 in
       let rest = rest_hears split.0 t r h.valid (h.full refl) split.2 in
       answered_gone is a rest.gone (λ e u some same. rest.known e u same)
-
-  answered_unknown : {queued left : ℕ} {flushed : Option Bool} {o b : Option Reply} {result : Result Ending Refusal} (x : Refusal) → result ≡ Err x → Answered queued left flushed o b result
-      → o ≡ Some (reply.Refused refusal.NoClient)
-  answered_unknown x e ended = absurd cc
-  answered_unknown x e (unknown y known none) = ap (λ (z : Refusal). Some (reply.Refused z)) known
-  answered_unknown x e a = absurd cc
-
-  end_unknown : {held left : Totals} {remains : ℕ} {result : Result Ending Refusal} {es : List CallEvent} (x : Refusal) (s t : State) → result ≡ Err x → EndClient (step.CloseOne w id) held left remains result es → IsValid s
-      → Leads s es t → client_of w id t.clients ≡ None
-  end_unknown x s t e (in_one_hold queued o b result es sum c a) valid l = (first_hears s t c valid l).unknown (answered_unknown x e a)
-  end_unknown x s t e (in_more queued n ok mid o b result es fs sum c r a) valid l =
-      let split = leads_split es fs s t l in
-      let h = first_hears s split.0 c valid split.1 in
-      (rest_hears split.0 t r h.valid (h.full refl) split.2).unknown (answered_unknown x e a)
-
--- A client whose end is over is no client of the worker's.
-pub over_is_gone : StepsKeepValidity → (w id : ℕ) {held left : Totals} {remains : ℕ} {es : List CallEvent} (result : Result Ending Refusal) (s t : State) → still_waits result ≡ false
-    → EndClient (step.CloseOne w id) held left remains result es → IsValid s → Leads s es t → client_of w id t.clients ≡ None
-over_is_gone law w id (Ok (ending.Ended q)) s t over h valid l = ap (λ o. option_and_then (if_owned w) o) (ended_is_gone law w id s t refl h valid l)
-over_is_gone law w id (Ok (ending.Waiting left why)) s t over h valid l = absurd cc
-over_is_gone law w id (Err x) s t over h valid l = end_unknown law w id x s t refl h valid l

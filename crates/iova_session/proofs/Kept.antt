@@ -5,14 +5,10 @@ use Rattle.std.specs.Prelude.{Result, Ok, Err, Bool}
 use Rattle.iova_range.specs.declared.refusal.Refusal.{Refusal}
 use Rattle.iova_model.specs.declared.step.Step.TheVariants as step
 use Rattle.iova_model.specs.State.{State}
-use Rattle.iova_model.specs.Effects.{held_by, add_totals}
-use Rattle.iova_model.specs.Clients.{no_totals, totals_of}
-use Rattle.iova_model.specs.declared.totals.Totals.{Totals}
-use Rattle.iova_model.specs.declared.step.Reply.{Reply}
-use Rattle.iova_model.specs.declared.step.Reply.TheVariants as reply
+use Rattle.iova_model.specs.Effects.{held_by}
 use Rattle.iova_model.specs.Laws.{OthersKeepTheirHoldings}
 use Rattle.iova_sink.specs.Calls.{Call}
-use Rattle.iova_keep.specs.Views.{WhereKnown, SeatState, opened_or, given_or, unmapped_or}
+use Rattle.iova_keep.specs.Views.{WhereKnown, SeatState, opened_or, given_or}
 use Rattle.iova_keep.specs.Answers.{DoesFlush, DrainsAll}
 use Rattle.iova_proto.specs.declared.answer.Answer.{Answer}
 use Rattle.iova_proto.specs.declared.answer.Answer.TheVariants as answer
@@ -22,9 +18,8 @@ use Rattle.iova_session.specs.Pairs.{Pair}
 use Rattle.iova_session.specs.Desks.{AreAnswers, next_client, count_listed, client_after}
 use Rattle.iova_session.specs.Domains.{KeepsOthers, FlushesAndDrains, known_keeps-prop}
 use Rattle.iova_session.specs.Leading.{Moment, moment, FirstDoes, ClientDoes, PairsLead, LeadsFrom}
-use Rattle.iova_session.proofs.Others.{known_one, takes_keep, leads_keep, leads_keep_all, client_stays}
-use Rattle.iova_session.proofs.AloneSteps.{Lowers}
-use Rattle.iova_session.proofs.AloneHolds.{release_goes, flush_goes, drain_all_goes}
+use Rattle.iova_session.proofs.Named.{release_of, flush_of, drain_all_of}
+use Rattle.iova_session.proofs.Others.{known_one, takes_keep, leads_keep, client_stays}
 
 same_keeps : (client : Option ℕ) (s t : State) → t ≡ s → KeepsOthers client s t
 same_keeps client s t e other ne = ap (λ (x : State). held_by other x.clients) e
@@ -43,10 +38,10 @@ first_keep law number w (request.Hello domain sac) a s t (inr h) = λ other ne.
 first_keep law number w r a s t h = same_keeps None s t h.1
 
 flush_keeps : OthersKeepTheirHoldings → (result : Result ℕ Refusal) (number : ℕ) (before now : List Call) (s t : State) → DoesFlush result number before now s t → KeepsOthers None s t
-flush_keeps law result number before now s t d = leads_keep_all law d.events None None no_totals no_totals s t (λ id. flush_goes id no_totals d.allowed.0) d.leads
+flush_keeps law result number before now s t d = leads_keep law None d.events s t (flush_of None d.allowed.0) d.leads
 
 drain_keeps : OthersKeepTheirHoldings → (by : ℕ) (result : Result ℕ Refusal) (s t : State) → DrainsAll by result s t → KeepsOthers None s t
-drain_keeps law by result s t d = leads_keep_all law d.events None None no_totals no_totals s t (λ id. drain_all_goes id no_totals d.allowed) d.leads
+drain_keeps law by result s t d = leads_keep law None d.events s t (drain_all_of None d.allowed) d.leads
 
 flushes_keep : OthersKeepTheirHoldings → (w : ℕ) (a : Answer) (number : ℕ) (before now : List Call) (s t : State) → FlushesAndDrains w a number before now s t → KeepsOthers None s t
 flushes_keep law w (answer.Flushed k freed) number before now s t h =
@@ -54,18 +49,12 @@ flushes_keep law w (answer.Flushed k freed) number before now s t h =
 flushes_keep law w (answer.Refused e) number before now s t h = flush_keeps law (Err e) number before now s t h
 flushes_keep law w a number before now s t h = absurd h
 
--- shares from which a reply takes what it says
-lowered : (r : Reply) → (held : Totals) × Lowers (Some r) held no_totals
-lowered (reply.Queued q) = (add_totals no_totals (totals_of (q ∷ [])), refl)
-lowered r = (no_totals, refl)
-
 client_keep : OthersKeepTheirHoldings → (strict : Bool) (number : ℕ) (seat : SeatState) (id listed : ℕ) (r : Request) (a : Answer) (before now : List Call) (s t : State)
     → ClientDoes strict number seat id listed r a before now s t → KeepsOthers (Some id) s t
 client_keep law strict number seat id listed (request.Alloc frames limit) a before now s t h = λ other ne.
     takes_keep law s (step.Alloc seat.worker id frames limit) (given_or h.0) t h.1 other (λ e. ne e)
 client_keep law strict number seat id listed (request.Free lo) a before now s t h =
-    let before = lowered (unmapped_or h.0) in
-    leads_keep law id h.1.events None None before.0 no_totals s t (release_goes before.0 no_totals h.1.allowed.0 before.1) h.1.leads
+    leads_keep law (Some id) h.1.events s t (release_of (step.Unmap seat.worker id lo) h.1.allowed.0) h.1.leads
 client_keep law strict number seat id listed request.Flush a before now s t h = none_keep (Some id) s t (flushes_keep law seat.worker a number before now s t h)
 client_keep law strict number seat id listed r a before now s t h = same_keeps (Some id) s t h.2
 

@@ -13,13 +13,9 @@ mod LoneEnds
 mod Retrying
 mod EndedPosts
 mod Emptied
+mod Named
 mod Others
 mod Alone
 mod Leads
 mod Kept
-mod Each
-mod Histories
-mod AloneSteps
-mod AloneHolds
-mod AloneSessions
 mod ExamplesGone

@@ -1,5 +1,5 @@
 -- Whose holdings the calls of the lock leave as they are.
-use Rattle.std.proofs.Common.{ℕ, ◌≡◌, ◌+◌, List, [], ◌∷◌, Option, Some, None, refl, sym, ap, ◌∙◌, subst, arith}
+use Rattle.std.proofs.Common.{ℕ, ◌≡◌, List, [], ◌∷◌, Option, Some, None, refl, sym, ap, ◌∙◌, subst}
 use Rattle.std.specs.Prelude.{Result, Ok, Err, Bool, IfSome}
 use Rattle.iova_range.specs.declared.refusal.Refusal.{Refusal}
 use Rattle.iova_model.specs.declared.step.Step.{Step}
@@ -31,8 +31,7 @@ use Rattle.iova_session.specs.Leaving.{IsTold, EndsAfter, Departs}
 use Rattle.iova_session.specs.Domains.{KeepsOthers, IsLeft, LeavesOthers}
 use Rattle.iova_session.specs.Posts.{TellsFitting}
 use Rattle.iova_session.proofs.Gone.{ended_is_gone}
-use Rattle.iova_session.proofs.AloneSteps.{Passes, unmaps, closes, drains, begins, ends}
-use Rattle.iova_session.proofs.AloneHolds.{Goes, end_client_goes}
+use Rattle.iova_session.proofs.Named.{AreOf, end_client_of}
 
 left_same : {m n : ℕ} {v w : Why} → ◌≡◌ {A = Result Ending Refusal} (Ok (ending.Waiting m v)) (Ok (ending.Waiting n w)) → n ≡ m
 left_same e = cc
@@ -60,32 +59,16 @@ known_one None b P R p f = tt
 known_one (Some s) None P R p f = absurd p
 known_one (Some s) (Some t) P R p f = f s t p
 
-pub some_same : {id other : ℕ} → Some id ≡ Some other → other ≡ id
-some_same e = cc
-
--- a step that passes names no client but this one
-passes_name : {id : ℕ} {st : Step} {r : Reply} {o p : Option ℕ} {held left : Totals} → Passes id st r o held p left → (other : ℕ) → client_named st ≡ Some other → other ≡ id
-passes_name (unmaps v lo r o held left l) other e = some_same e
-passes_name (closes v r o held left l) other e = some_same e
-passes_name (drains q by r o held) other e = absurd cc
-passes_name (begins r held) other e = absurd cc
-passes_name (ends n ok r held) other e = absurd cc
-
 pub takes_keep : OthersKeepTheirHoldings → (s : State) (st : Step) (r : Reply) (t : State) → Takes s st r t → (id : ℕ) → (client_named st ≡ Some id → ⊥) → held_by id t.clients ≡ held_by id s.clients
 unfolding Takes
 takes_keep law s st r t h id other = ap (λ (x : State). held_by id x.clients) h.2 ∙ law s st h.0 id other
 
-pub leads_keep : OthersKeepTheirHoldings → (id : ℕ) (es : List CallEvent) (o p : Option ℕ) (held left : Totals) (s t : State) → Goes id o held es p left → Leads s es t → KeepsOthers (Some id) s t
-leads_keep law id [] o p held left s t g l = λ other ne. ap (λ (x : State). held_by other x.clients) l
-leads_keep law id (Ran st r ∷ es) o p held left s t g l = λ other ne.
-    leads_keep law id es g.0 p g.1 left l.0 t g.3 l.2 other ne ∙ takes_keep law s st r l.0 l.1 other (λ e. ne (ap Some (sym (passes_name g.2 other e))))
-leads_keep law id (NotRun st h ∷ es) o p held left s t g l = leads_keep law id es o p held left s t g l.1
-leads_keep law id (Invalidated n ok ∷ es) o p held left s t g l = leads_keep law id es o p held left s t g l
-
--- steps that name no client leave the holdings of all
-pub leads_keep_all : OthersKeepTheirHoldings → (es : List CallEvent) (o p : Option ℕ) (held left : Totals) (s t : State) → ((id : ℕ) → Goes id o held es p left) → Leads s es t → KeepsOthers None s t
-leads_keep_all law es o p held left s t n l = λ other ne.
-    leads_keep law (other + 1) es o p held left s t (n (other + 1)) l other (λ e. absurd (let same : other ≡ other + 1 = some_same e in omega (arith, same)))
+pub leads_keep : OthersKeepTheirHoldings → (client : Option ℕ) (es : List CallEvent) (s t : State) → AreOf client es → Leads s es t → KeepsOthers client s t
+leads_keep law client [] s t g l = λ other ne. ap (λ (x : State). held_by other x.clients) l
+leads_keep law client (Ran st r ∷ es) s t g l = λ other ne.
+    leads_keep law client es l.0 t g.1 l.2 other ne ∙ takes_keep law s st r l.0 l.1 other (λ e. ne (g.0 other e))
+leads_keep law client (NotRun st h ∷ es) s t g l = leads_keep law client es s t g.1 l.1
+leads_keep law client (Invalidated n ok ∷ es) s t g l = leads_keep law client es s t g.1 l
 
 -- what is reported of a client's end is its result, or nothing
 abbrev TellsAtMost : Option Ending → Result Ending Refusal → Type 0
@@ -124,7 +107,7 @@ departed : OthersKeepTheirHoldings → StepsKeepValidity → (seat : SeatState) 
     → IsKept s → TellsAtMost told l.ended → IsTold number id (holdings_in (client_of seat.worker id s.clients)) answer before calls
     → EndsAfter answer seat left id (holdings_in (client_of seat.worker id s.clients)) l number calls now s t → LeavesOthers (Some id) told s t
 departed law valid seat left id told l number (Ok u) before calls now s t k m is x =
-    let d = x.1 in (leads_keep law id d.events None None seat.held left s t (end_client_goes d.allowed.0) d.leads, left_told valid id seat left told l.ended number calls now s t k m d)
+    let d = x.1 in (leads_keep law (Some id) d.events s t (end_client_of (step.CloseOne seat.worker id) d.allowed.0) d.leads, left_told valid id seat left told l.ended number calls now s t k m d)
 departed law valid seat left id told l number (Err e) before calls now s t k m is x =
     let same : t ≡ s = x.4 in (
       λ other ne. ap (λ (u : State). held_by other u.clients) same,

@@ -10,7 +10,24 @@ use Rattle.iova_session.specs.Posts.{IsSublist, Retries, RetriesAll, kept_if}
 use Rattle.iova_session.specs.declared.leaving.Attempt.{Attempt}
 use Rattle.iova_session.specs.Leaving.{Attempts}
 use Rattle.iova_session.proofs.Others.{known_one}
-use Rattle.iova_session.proofs.Each.{drop_next, same_there}
+
+-- A place behind which two lists are the same.
+
+abbrev tail : List ℕ → List ℕ
+tail [] = []
+tail (x ∷ xs) = xs
+
+abbrev head_or : ℕ → List ℕ → ℕ
+head_or d [] = d
+head_or d (x ∷ xs) = x
+
+drop_next : (xs ys : List ℕ) (at d : ℕ) → at < length xs → at < length ys → drop at xs ≡ drop at ys → drop (at + 1) xs ≡ drop (at + 1) ys
+drop_next xs ys at d lx ly e = ap tail (sym (drop_more xs at d lx) ∙ e ∙ drop_more ys at d ly)
+
+same_there : (xs ys : List ℕ) (at d : ℕ) → at < length xs → at < length ys → drop at xs ≡ drop at ys → get_or xs at d ≡ get_or ys at d
+same_there xs ys at d lx ly e = ap (head_or d) (sym (drop_more xs at d lx) ∙ e ∙ drop_more ys at d ly)
+
+-- Those that are kept.
 
 pub kept_last : (xs ys : List ℕ) (y : ℕ) → IsSublist xs ys → IsSublist (xs ++ y ∷ []) (ys ++ y ∷ [])
 kept_last [] [] y h = inl (refl, tt)

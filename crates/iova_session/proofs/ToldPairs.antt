@@ -133,11 +133,6 @@ none_done rs asks before now count held left e none zero h =
     let t : ToldOfAsks (asks_in rs) [] held left = subst (λ (xs : List Told). ToldOfAsks (asks_in rs) xs held left) nothing (subst (λ (qs : List Ask). ToldOfAsks qs h.more held left) e h.told) in
     (first_alone rs t.0, t.1, all ∙ nothing)
 
-pub told_short : (rs : List Request) (xs : List Told) → AreTold rs xs → length xs ≤ length rs
-told_short rs [] h = omega arith
-told_short [] (x ∷ xs) h = absurd h
-told_short (r ∷ rs) (x ∷ xs) h = omega (arith, told_short rs xs h.1)
-
 -- nothing is asked
 pub none_asked : (rs : List Request) (s : SessionState) (answers : List Answer) (held : Totals) → AnswersRun rs 0 s s answers answers held held
 unfolding requests_of answers_of given_in taken_in

@@ -15,12 +15,11 @@ use Rattle.iova_keep.specs.declared.ask.Told.{Told}
 use Rattle.iova_keep.specs.declared.ask.Told.TheVariants as lock_told
 use Rattle.iova_keep.specs.declared.unmapped.Unmapped.{Unmapped}
 use Rattle.iova_keep.specs.declared.unmapped.Unmapped.TheVariants as unmapped
-use Rattle.iova_keep.specs.Views.{IsOpenRefusal, IsAllocRefusal, IsUnmapRefusal, IsFlushRefusal, SeatState}
+use Rattle.iova_keep.specs.Views.{IsOpenRefusal, IsAllocRefusal, IsUnmapRefusal, IsFlushRefusal}
 use Rattle.iova_proto.specs.declared.answer.Answer.{Answer}
 use Rattle.iova_proto.specs.declared.answer.Answer.TheVariants as answer
 use Rattle.iova_proto.specs.declared.request.Request.{Request}
 use Rattle.iova_proto.specs.declared.request.Request.TheVariants as request
-use Rattle.iova_sink.specs.Calls.{Call, good_calls}
 use Rattle.iova_keep.specs.Batches.{IsToldOf}
 use Rattle.iova_session.specs.Pairs.{Pair, requests_of, answers_of}
 

@@ -27,10 +27,6 @@ pub record IsAlone (seat : SeatState) (waiting : List ℕ) (s : State) : Type 0 
   pub shares : HasAtLeast seat.held (totals s.clients)
   pub quiet : s.flushes.in_flight ≡ []
 
--- where nobody but clients that waited held a range, none but clients that wait does afterwards
-abbrev pub StaysAlone : SeatState → SeatState → List ℕ → List ℕ → State → State → Type 0
-StaysAlone old new was waiting s t = IsAlone old was s → IsAlone new waiting t
-
 -- There are numbers for the flushes that full rings begin: a range is queued after each, so that
 -- they are at most as many as the ranges that are held.
 abbrev pub HasFlushNumbers : State → Type 0

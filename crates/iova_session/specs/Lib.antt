@@ -8,5 +8,4 @@ pub mod Leaving
 pub mod Leading
 pub mod Posts
 pub mod Gone
-pub mod OneByOne
-pub mod Histories
+pub mod PostSessions

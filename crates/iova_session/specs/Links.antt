@@ -1,5 +1,5 @@
 -- What contracts see of links.
-use Rattle.std.specs.Prelude.{ℕ, ◌≡◌, ◌+◌, ◌<◌, List, Option, Result, MatchResult}
+use Rattle.std.specs.Prelude.{ℕ, ◌≡◌, ◌+◌, ◌<◌, List, Result, MatchResult}
 
 -- how the ends are counted at a read that answers this, where there is room for so many bytes
 abbrev pub CountsEnds : {E : Type 0} → Result ℕ E → ℕ → ℕ → ℕ → Type 0

@@ -10,7 +10,6 @@ mod gathering;
 pub mod leaving;
 pub mod link;
 pub mod memory_link;
-pub mod one_by_one;
 pub mod pairs;
 pub mod post;
 pub mod retry;

@@ -10,11 +10,11 @@ mod daemon;
 #[cfg(test)]
 mod fresh;
 #[cfg(test)]
+mod in_turn;
+#[cfg(test)]
 mod lines;
 #[cfg(test)]
 mod links;
-#[cfg(test)]
-mod one_by_one;
 #[cfg(test)]
 mod peers;
 #[cfg(test)]

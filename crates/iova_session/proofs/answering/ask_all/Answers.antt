@@ -1,4 +1,4 @@
-use Rattle.std.proofs.Common.{◌≡◌, ◌∙◌, ◌+◌, ◌-◌, ◌≤◌, ◌++◌, [], ℕ, sym, ap, subst, take, drop, length, arith, refl, length-take, length-drop, append_assoc, append-nil, inr}
+use Rattle.std.proofs.Common.{◌≡◌, ◌∙◌, ◌+◌, ◌-◌, ◌≤◌, ◌++◌, [], sym, ap, subst, take, drop, length, arith, refl, length-take, length-drop, append_assoc, append-nil, inr}
 use Rattle.std.proofs.KnownBytes.{Appends-nil}
 use Rattle.std.specs.Io.KnownBytes.{Appends}
 use Rattle.iova_proto.specs.declared.request.Request.{Request}

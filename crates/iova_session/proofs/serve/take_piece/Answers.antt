@@ -1,4 +1,4 @@
-use Rattle.std.proofs.Common.{Ok, Err, ◌≡◌, ◌∙◌, ◌-◌, ◌≤◌, ◌++◌, [], ℕ, refl, sym, ap, subst, take, drop, length, arith, length-take, length-drop, append_assoc, append-nil}
+use Rattle.std.proofs.Common.{Ok, Err, ◌∙◌, ◌-◌, ◌≤◌, ◌++◌, [], ℕ, refl, sym, ap, subst, take, drop, length, arith, length-take, length-drop, append_assoc, append-nil}
 use Rattle.std.proofs.KnownBytes.{Appends-trans, Appends-nil}
 use Rattle.iova_session.specs.declared.gathering.Stop.TheVariants as stops
 use Rattle.iova_session.specs.declared.end.End.TheVariants as ends

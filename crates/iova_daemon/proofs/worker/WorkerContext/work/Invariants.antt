@@ -1,6 +1,6 @@
 use Rattle.std.proofs.Common.{◌≡◌}
 use Rattle.iova_keep.specs.Views.{KeepsPlace}
-use Rattle.iova_session.specs.OneByOne.{between}
+use Rattle.iova_session.specs.PostSessions.{between}
 use Rattle.iova_daemon.specs.SessionThreads.{ServesOnThread}
 use Rattle.iova_daemon.proofs.worker.WorkerContext.work.Given as goal
 
