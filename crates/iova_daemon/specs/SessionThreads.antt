@@ -1,35 +1,19 @@
 -- What a session thread does at its post: sessions, one after another, and tries of its waiting
 -- clients.
-use Rattle.std.specs.Prelude.{ℕ, ◌≡◌, ◌+◌, ◌⊎◌, Bool, List, Option, None}
-use Rattle.std.specs.Io.KnownBytes.{Appends, Consumes}
+use Rattle.std.specs.Prelude.{ℕ, ◌≡◌, ◌⊎◌, Bool, List, Option}
 use Rattle.iova_keep.specs.Views.{WhereKnown}
 use Rattle.iova_session.specs.declared.run.SessionEnd.{SessionEnd}
 use Rattle.iova_session.specs.declared.session_limits.SessionLimits.{SessionLimits}
-use Rattle.iova_session.specs.Desks.{AreAnswers, client_after}
-use Rattle.iova_session.specs.Domains.{LeavesOthers}
-use Rattle.iova_session.specs.Leading.{SessionLeads}
-use Rattle.iova_session.specs.PostSessions.{Between}
-use Rattle.iova_session.specs.Pairs.{Pair}
-use Rattle.iova_session.specs.Posts.{EndsClient, IsSublist, RetriesAll}
-use Rattle.iova_session.specs.Sessions.{ServesWithin}
+use Rattle.iova_session.specs.PostSessions.{Between, RunsSession}
+use Rattle.iova_session.specs.Posts.{IsSublist, RetriesAll}
 
 -- A session over this link within these limits, from its first byte to the end of its client: it
 -- leads from a to b.
 abbrev pub ServesSession : {L : Type 0} → (left sent : L → Option (List ℕ)) → (reads : L → ℕ)
     → SessionLimits → (strict : Bool) → (number : ℕ) → L → (a b : Between) → Type 0
 ServesSession {L} left sent reads limits strict number link a b =
-    (now : L) × (ended : SessionEnd) × (taken : List ℕ) × (ps : List Pair) × (written : List ℕ)
-    × (count : ℕ)
-    × Consumes (left link) (left now) taken
-    × Appends (sent link) (sent now) written
-    × (reads now ≡ reads link + count)
-    × ServesWithin limits.requests limits.reads taken ps written count ended.end
-    × AreAnswers number None 0 ps
-    × EndsClient ps ended.client a.seat.held b.seat.held a.waiting b.waiting
-    × WhereKnown a.domain b.domain (LeavesOthers (client_after None ps) ended.client)
-    × ∥ WhereKnown a.domain b.domain
-    (SessionLeads strict number ps ended.client a.seat b.seat a.waiting b.waiting a.calls b.calls)
-    ∥₁
+    (now : L) × (ended : SessionEnd)
+    × RunsSession left sent reads limits strict number link now ended a b
 
 -- the clients that wait are tried once more, and no other one waits then
 abbrev pub TriesAgain : (number : ℕ) → (a b : Between) → Type 0

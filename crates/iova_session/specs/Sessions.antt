@@ -1,7 +1,8 @@
 -- What a session takes, asks, writes and ends by.
-use Rattle.std.specs.Prelude.{ℕ, ◌≡◌, ◌≢◌, ◌≤◌, ◌⊎◌, List, [], ◌∷◌, ◌++◌, length, take, codes}
+use Rattle.std.specs.Prelude.{ℕ, ◌≡◌, ◌≢◌, ◌+◌, ◌≤◌, ◌⊎◌, List, [], ◌∷◌, ◌++◌, Option, length, take, codes}
+use Rattle.std.specs.Io.KnownBytes.{Appends, Consumes}
 use Rattle.std.specs.List.{AllByRecursion}
-use Rattle.iova_range.specs.declared.limits.TheConstants.{MAX_SESSION_READS}
+use Rattle.iova_range.specs.declared.limits.TheConstants.{MAX_REQUESTS, MAX_SESSION_READS}
 use Rattle.iova_text.specs.Lines.{IsUnended}
 use Rattle.iova_proto.specs.Feeds.{BeginsBad}
 use Rattle.iova_proto.specs.Requests.{request_text, IsRequest}
@@ -10,6 +11,7 @@ use Rattle.iova_proto.specs.declared.request.Request.TheVariants as request
 use Rattle.iova_session.specs.Pairs.{Pair, requests_of, answers_of, requests_text, answers_text}
 use Rattle.iova_session.specs.declared.end.End.{End}
 use Rattle.iova_session.specs.declared.end.End.TheVariants as ends
+use Rattle.iova_session.specs.declared.session_limits.SessionLimits.{SessionLimits}
 
 -- what is written for a line that is no request's
 abbrev pub bad_line : List ℕ
@@ -93,6 +95,23 @@ pub record ServesWithin (most most_reads : ℕ) (taken : List ℕ) (ps : List Pa
 abbrev pub Serves : ℕ → List ℕ → List Pair → List ℕ → ℕ → End → Type 0
 Serves most taken ps written reads end =
     ServesWithin most MAX_SESSION_READS taken ps written reads end
+
+-- the limits where nobody says others
+abbrev pub usual_limits : SessionLimits
+usual_limits = record { requests = MAX_REQUESTS; reads = MAX_SESSION_READS }
+
+-- A session over a link within these limits, which asked these requests with their answers and
+-- ended so: the bytes that it took of those that the link had left, the bytes that it wrote, and
+-- the number of its reads.
+pub record ServesOver {L : Type 0} (left sent : L → Option (List ℕ)) (reads : L → ℕ)
+    (limits : SessionLimits) (old new : L) (ps : List Pair) (end : End) : Type 0 where
+  pub taken : List ℕ
+  pub written : List ℕ
+  pub count : ℕ
+  pub consumed : Consumes (left old) (left new) taken
+  pub appended : Appends (sent old) (sent new) written
+  pub counted : reads new ≡ reads old + count
+  pub served : ServesWithin limits.requests limits.reads taken ps written count end
 
 -- how many calls of the link failed in a session that ended so
 abbrev pub failures_at : End → ℕ

@@ -1,6 +1,5 @@
 //! Requests asked, and their answers written.
-ghost use Rattle.std.specs.Prelude.{◌≡◌, ◌≢◌, ℕ, ◌+◌, ◌≤◌, ◌++◌, List, MatchResult, OnOk, OnErr, IfErr, ◌⊎◌, [], IsTrue, length, take};
-ghost use Rattle.iova_sink.specs.Counts.{CountsFailure};
+ghost use Rattle.std.specs.Prelude.{◌≡◌, ℕ, ◌+◌, ◌≤◌, ◌++◌, List, OnOk, IfErr, ◌⊎◌, [], IsTrue, length};
 ghost use Rattle.std.specs.Io.KnownBytes.{Appends};
 ghost use Rattle.iova_proto.specs.Answers.{answer_text, first_line};
 ghost use Rattle.iova_text.specs.Writing.{AppendsFront};

@@ -1,8 +1,7 @@
 //! What a session's requests are answered, over any keeper: the checks of the session's own, and
 //! then the calls of the lock.
-ghost use Rattle.std.specs.Prelude.{◌≡◌, ◌≢◌, ℕ, ◌+◌, ◌≤◌, IfSome};
+ghost use Rattle.std.specs.Prelude.{◌≡◌, ◌≢◌, ℕ, ◌≤◌, IfSome};
 ghost use Rattle.iova_range.specs.declared.limits.TheConstants.{MAX_LISTED};
-ghost use Rattle.iova_sink.specs.Calls.{good_calls};
 ghost use Rattle.iova_keep.specs.Views.{WhereKnown, KeepsPlace};
 ghost use Rattle.iova_session.specs.Domains.{FlushesAndDrains, Lists};
 ghost use Rattle.iova_session.specs.Leading.{ClientDoes, FirstDoes};

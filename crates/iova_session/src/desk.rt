@@ -1,5 +1,5 @@
 //! What answers the requests of a session.
-ghost use Rattle.std.specs.Prelude.{◌≡◌, ◌≤◌, ◌++◌, List, IfOk, OnErr, length, take};
+ghost use Rattle.std.specs.Prelude.{◌≡◌, ◌≤◌, List, IfOk, OnErr, length};
 ghost use Rattle.iova_session.specs.Pairs.{Pair, AsksFront};
 
 use iova_proto::answer::Answer;

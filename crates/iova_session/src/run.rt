@@ -1,17 +1,16 @@
 //! A session at a post, from its first byte to the end of its client.
-ghost use Rattle.std.specs.Prelude.{◌≡◌, ℕ, ◌+◌, ◌++◌, ◌≤◌, List, None, Some, true, false, vec_len, vec_capacity};
-ghost use Rattle.std.specs.Io.KnownBytes.{Appends, Consumes};
-ghost use Rattle.iova_range.specs.declared.limits.TheConstants.{MAX_HOLDINGS, MAX_REQUESTS};
-ghost use Rattle.iova_sink.specs.Calls.{Call};
+ghost use Rattle.std.specs.Prelude.{◌≡◌, ◌+◌, ◌++◌, ◌≤◌, List, None, Some, true, false, vec_len, vec_capacity};
+ghost use Rattle.iova_range.specs.declared.limits.TheConstants.{MAX_HOLDINGS};
 ghost use Rattle.iova_keep.specs.Views.{WhereKnown, KeepsPlace};
 ghost use Rattle.iova_session.specs.Domains.{LeavesOthers};
 ghost use Rattle.iova_session.specs.Gone.{HasRoom};
-ghost use Rattle.iova_session.specs.Leading.{EndDoes, LeadsFrom, SessionLeads, moment};
+ghost use Rattle.iova_session.specs.Leading.{EndDoes, LeadsFrom, moment};
 ghost use Rattle.iova_session.specs.Pairs.{Pair};
-ghost use Rattle.iova_session.specs.Sessions.{Serves, ServesWithin, failures_at, ends_at};
+ghost use Rattle.iova_session.specs.Sessions.{ServesOver, usual_limits, failures_at, ends_at};
 ghost use Rattle.iova_session.specs.Desks.{AreAnswers, MovesBy, given_in, taken_in, client_after};
 ghost use Rattle.iova_session.specs.Leaving.{still_waits};
-ghost use Rattle.iova_session.specs.Posts.{EndsClient, EndsFrom, Fits, TellsFitting, kept_if};
+ghost use Rattle.iova_session.specs.Posts.{EndsFrom, Fits, TellsFitting, kept_if};
+ghost use Rattle.iova_session.specs.PostSessions.{RunsSession, between};
 
 use crate::end::End;
 use crate::leaving::{leave, waits};
@@ -69,11 +68,8 @@ fn serve_with<'a, B: Names, K: Keep<B>, D: Sink, L: Link, O: SessionStart>(
         × (result.access.seat.ghost_name ≡ access.entry.seat.ghost_name)
         × (result.access.sink.ghost_name ≡ access.entry.sink.ghost_name) }
     ensures same { K.identity result.access.keeper.now ≡ K.identity access.entry.keeper.now }
-    ensures session { (taken : List ℕ) × (ps : List Pair) × (written : List ℕ) × (reads : ℕ)
-        × Consumes (L.left link.old) (L.left link.new) taken
-        × Appends (L.sent link.old) (L.sent link.new) written
-        × (L.reads link.new ≡ L.reads link.old + reads)
-        × ServesWithin limits.requests limits.reads taken ps written reads result.end
+    ensures session { (ps : List Pair)
+        × ServesOver L.left L.sent L.reads limits link.old link.new ps result.end
         × AreAnswers (K.identity access.entry.keeper.now).number None 0 ps
         × (result.client ≡ client_after None ps)
         × MovesBy (given_in ps) (taken_in ps) access.entry.seat.now.held result.access.seat.now.held
@@ -120,11 +116,8 @@ fn serve_at<B: Names, K: Keep<B>, D: Sink, L: Link>(
     sink: &mut D,
 ) -> (End, Option<ClientId>)
     ensures same { K.identity keeper.new ≡ K.identity keeper.old }
-    ensures session { (taken : List ℕ) × (ps : List Pair) × (written : List ℕ) × (reads : ℕ)
-        × Consumes (L.left link.old) (L.left link.new) taken
-        × Appends (L.sent link.old) (L.sent link.new) written
-        × (L.reads link.new ≡ L.reads link.old + reads)
-        × ServesWithin limits.requests limits.reads taken ps written reads result.0
+    ensures session { (ps : List Pair)
+        × ServesOver L.left L.sent L.reads limits link.old link.new ps result.0
         × AreAnswers (K.identity keeper.old).number None 0 ps
         × (result.1 ≡ client_after None ps)
         × MovesBy (given_in ps) (taken_in ps) seat.old.held seat.new.held
@@ -163,20 +156,10 @@ pub fn run_session<B: Names, L: Link, K: Keep<B>, D: Sink>(
     sink: &mut D,
 ) -> SessionEnd
     ensures same { K.identity keeper.new ≡ K.identity keeper.old }
-    ensures session { (taken : List ℕ) × (ps : List Pair) × (written : List ℕ) × (reads : ℕ)
-        × Consumes (L.left link.old) (L.left link.new) taken
-        × Appends (L.sent link.old) (L.sent link.new) written
-        × (L.reads link.new ≡ L.reads link.old + reads)
-        × Serves MAX_REQUESTS taken ps written reads result.end
-        × AreAnswers (K.identity keeper.old).number None 0 ps
-        × EndsClient ps result.client post.old.seat.held post.new.seat.held post.old.waiting.items
-        post.new.waiting.items
-        × WhereKnown (K.domain keeper.old) (K.domain keeper.new)
-        (LeavesOthers (client_after None ps) result.client)
-        × ∥ WhereKnown (K.domain keeper.old) (K.domain keeper.new)
-        (SessionLeads (K.identity keeper.old).strict
-        (K.identity keeper.old).number ps result.client post.old.seat post.new.seat
-        post.old.waiting.items post.new.waiting.items (D.calls sink.old) (D.calls sink.new)) ∥₁ }
+    ensures session { RunsSession L.left L.sent L.reads usual_limits (K.identity keeper.old).strict
+        (K.identity keeper.old).number link.old link.new result
+        (between post.old.seat post.old.waiting.items (D.calls sink.old) (K.domain keeper.old))
+        (between post.new.seat post.new.waiting.items (D.calls sink.new) (K.domain keeper.new)) }
     ensures failures { L.failures link.new ≡ L.failures link.old + failures_at result.end }
     ensures ends { L.ends link.new ≡ L.ends link.old + ends_at result.end }
     ensures room { HasRoom post.old.waiting.items (vec_capacity post.old.ranges)
@@ -197,20 +180,10 @@ pub fn run_session_within<B: Names, L: Link, K: Keep<B>, D: Sink>(
     sink: &mut D,
 ) -> SessionEnd
     ensures same { K.identity keeper.new ≡ K.identity keeper.old }
-    ensures session { (taken : List ℕ) × (ps : List Pair) × (written : List ℕ) × (reads : ℕ)
-        × Consumes (L.left link.old) (L.left link.new) taken
-        × Appends (L.sent link.old) (L.sent link.new) written
-        × (L.reads link.new ≡ L.reads link.old + reads)
-        × ServesWithin limits.requests limits.reads taken ps written reads result.end
-        × AreAnswers (K.identity keeper.old).number None 0 ps
-        × EndsClient ps result.client post.old.seat.held post.new.seat.held post.old.waiting.items
-        post.new.waiting.items
-        × WhereKnown (K.domain keeper.old) (K.domain keeper.new)
-        (LeavesOthers (client_after None ps) result.client)
-        × ∥ WhereKnown (K.domain keeper.old) (K.domain keeper.new)
-        (SessionLeads (K.identity keeper.old).strict
-        (K.identity keeper.old).number ps result.client post.old.seat post.new.seat
-        post.old.waiting.items post.new.waiting.items (D.calls sink.old) (D.calls sink.new)) ∥₁ }
+    ensures session { RunsSession L.left L.sent L.reads limits (K.identity keeper.old).strict
+        (K.identity keeper.old).number link.old link.new result
+        (between post.old.seat post.old.waiting.items (D.calls sink.old) (K.domain keeper.old))
+        (between post.new.seat post.new.waiting.items (D.calls sink.new) (K.domain keeper.new)) }
     ensures failures { L.failures link.new ≡ L.failures link.old + failures_at result.end }
     ensures ends { L.ends link.new ≡ L.ends link.old + ends_at result.end }
     ensures room { HasRoom post.old.waiting.items (vec_capacity post.old.ranges)

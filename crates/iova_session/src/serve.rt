@@ -1,9 +1,8 @@
 //! A session, from its first byte to its end.
-ghost use Rattle.std.specs.Prelude.{◌≡◌, ℕ, ◌+◌, ◌++◌, List, MatchResult, IfErr, IsSome};
-ghost use Rattle.std.specs.Io.KnownBytes.{Appends, Consumes};
-ghost use Rattle.iova_range.specs.declared.limits.TheConstants.{MAX_REQUESTS};
+ghost use Rattle.std.specs.Prelude.{◌≡◌, ℕ, ◌+◌, ◌++◌, List, IfErr, IsSome};
+ghost use Rattle.std.specs.Io.KnownBytes.{Appends};
 ghost use Rattle.iova_session.specs.Pairs.{Pair};
-ghost use Rattle.iova_session.specs.Sessions.{Serves, ServesWithin, failures_at, ends_at};
+ghost use Rattle.iova_session.specs.Sessions.{ServesOver, usual_limits, failures_at, ends_at};
 ghost use Rattle.iova_session.specs.Rounds.{TakesPiece, CountsFault};
 
 use crate::answering::{AnswerRoom, ask_all, refuse};
@@ -30,12 +29,8 @@ const PIECE: usize = 1024;
 /// comes where a growth was refused, the desk's too: the requests of that run are not asked, or not
 /// answered.
 pub fn serve<L: Link, D: Desk>(alloc: Global, link: &mut L, desk: &mut D) -> End
-    ensures session { (taken : List ℕ) × (ps : List Pair) × (written : List ℕ) × (reads : ℕ)
-        × Consumes (L.left link.old) (L.left link.new) taken
-        × (D.pairs desk.new ≡ D.pairs desk.old ++ ps)
-        × Appends (L.sent link.old) (L.sent link.new) written
-        × (L.reads link.new ≡ L.reads link.old + reads)
-        × Serves MAX_REQUESTS taken ps written reads result }
+    ensures session { (ps : List Pair) × (D.pairs desk.new ≡ D.pairs desk.old ++ ps)
+        × ServesOver L.left L.sent L.reads usual_limits link.old link.new ps result }
     ensures failures { L.failures link.new ≡ L.failures link.old + failures_at result }
     ensures ends { L.ends link.new ≡ L.ends link.old + ends_at result }
 {
@@ -50,12 +45,8 @@ pub fn serve_within<L: Link, D: Desk>(
     link: &mut L,
     desk: &mut D,
 ) -> End
-    ensures session { (taken : List ℕ) × (ps : List Pair) × (written : List ℕ) × (reads : ℕ)
-        × Consumes (L.left link.old) (L.left link.new) taken
-        × (D.pairs desk.new ≡ D.pairs desk.old ++ ps)
-        × Appends (L.sent link.old) (L.sent link.new) written
-        × (L.reads link.new ≡ L.reads link.old + reads)
-        × ServesWithin limits.requests limits.reads taken ps written reads result }
+    ensures session { (ps : List Pair) × (D.pairs desk.new ≡ D.pairs desk.old ++ ps)
+        × ServesOver L.left L.sent L.reads limits link.old link.new ps result }
     ensures failures { L.failures link.new ≡ L.failures link.old + failures_at result }
     ensures ends { L.ends link.new ≡ L.ends link.old + ends_at result }
 {

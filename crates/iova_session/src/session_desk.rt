@@ -1,5 +1,5 @@
 //! The session's own desk, over any keeper.
-ghost use Rattle.std.specs.Prelude.{◌≡◌, ◌+◌, ◌≤◌, ℕ, Bool, false, IfOk, IfErr, List, [], Option, None, length};
+ghost use Rattle.std.specs.Prelude.{◌≡◌, ◌+◌, ◌≤◌, ℕ, false, IfOk, IfErr, List, [], Option, None, length};
 ghost use Rattle.iova_sink.specs.Calls.{Call, good_calls};
 ghost use Rattle.iova_model.specs.State.{State};
 ghost use Rattle.iova_keep.specs.Views.{Identity, SeatState, WhereKnown, new_seat, KeepsPlace};

@@ -1,6 +1,6 @@
 //! What a session may ask for.
-ghost use Rattle.std.specs.Prelude.{◌≡◌, ◌*◌, ◌≤◌, min};
-ghost use Rattle.iova_range.specs.declared.limits.TheConstants.{MAX_REQUESTS, MAX_SESSION_READS};
+ghost use Rattle.std.specs.Prelude.{◌≡◌, ◌*◌, min};
+ghost use Rattle.iova_session.specs.Sessions.{usual_limits};
 
 use iova_range::limits::MAX_REQUESTS;
 
@@ -19,7 +19,7 @@ pub struct SessionLimits {
 impl SessionLimits {
     /// 65,536 requests, in 1,048,576 reads.
     pub fn usual() -> SessionLimits
-        ensures { result ≡ record { requests = MAX_REQUESTS; reads = MAX_SESSION_READS } }
+        ensures { result ≡ usual_limits }
     {
         SessionLimits::of_requests(MAX_REQUESTS)
     }

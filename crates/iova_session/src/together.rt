@@ -3,7 +3,7 @@ ghost use Rattle.std.specs.Prelude.{◌≡◌, ◌+◌, ◌≤◌, ◌++◌, ◌
 ghost use Rattle.iova_sink.specs.Calls.{Call};
 ghost use Rattle.iova_keep.specs.Views.{WhereKnown, MovesSharesAlone};
 ghost use Rattle.iova_session.specs.Leading.{GoesOn, IsSame};
-ghost use Rattle.iova_session.specs.Desks.{SessionState, ask_of as the_ask_of, asks_in, answer_of as the_answer_of, told_pairs, AreTold, IsAnswer, IsFirstAlone, AnswersRun, next_client, count_listed};
+ghost use Rattle.iova_session.specs.Desks.{ask_of as the_ask_of, asks_in, answer_of as the_answer_of, told_pairs, AreTold, IsAnswer, IsFirstAlone, AnswersRun, next_client, count_listed};
 
 use crate::session::Session;
 use iova_keep::ask::{Ask, Told};

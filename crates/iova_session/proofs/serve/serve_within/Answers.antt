@@ -28,28 +28,32 @@ reading-init g c = record {
 pub returns-in_default-clause-session : goal.returns-in_default-clause-session
 returns-in_default-clause-session g c = (
   [],
-  [],
-  [],
-  0,
-  Consumes-nil (g.L.Link.left c.args.link.now),
   sym (append-nil (g.D.Desk.pairs c.args.desk.now)),
-  Appends-nil (g.L.Link.sent c.args.link.now),
-  omega arith,
-  Serves-no_room c.args.limits.requests c.args.limits.reads,
+  record {
+    taken = [];
+    written = [];
+    count = 0;
+    consumed = Consumes-nil (g.L.Link.left c.args.link.now);
+    appended = Appends-nil (g.L.Link.sent c.args.link.now);
+    counted = omega arith;
+    served = Serves-no_room c.args.limits.requests c.args.limits.reads;
+  },
 )
 
 pub returns-in_default-read-clause-session : goal.returns-in_default-read-clause-session
 returns-in_default-read-clause-session g c =
     let inv = c.reading.invariant in (
-      inv.taken,
       inv.ps,
-      inv.written,
-      c.reading.counter + 1,
-      Consumes-kept (g.L.Link.left c.args.link.now) (g.L.Link.left c.reading.link) (g.L.Link.left c.read.new.self) inv.taken inv.consumed c.in_default-read.ensures.bytes,
       inv.pairs,
-      subst (λ (x : Option (List ℕ)). Appends (g.L.Link.sent c.args.link.now) x inv.written) (sym c.read.ensures.sent) inv.sent,
-      omega (arith, c.read.ensures.reads, inv.reads),
-      Serves-fault c.args.limits.requests c.args.limits.reads c.reading.left (c.reading.counter + 1) inv.taken inv.next inv.written inv.ps inv.count (omega arith) inv.goes,
+      record {
+        taken = inv.taken;
+        written = inv.written;
+        count = c.reading.counter + 1;
+        consumed = Consumes-kept (g.L.Link.left c.args.link.now) (g.L.Link.left c.reading.link) (g.L.Link.left c.read.new.self) inv.taken inv.consumed c.in_default-read.ensures.bytes;
+        appended = subst (λ (x : Option (List ℕ)). Appends (g.L.Link.sent c.args.link.now) x inv.written) (sym c.read.ensures.sent) inv.sent;
+        counted = omega (arith, c.read.ensures.reads, inv.reads);
+        served = Serves-fault c.args.limits.requests c.args.limits.reads c.reading.left (c.reading.counter + 1) inv.taken inv.next inv.written inv.ps inv.count (omega arith) inv.goes;
+      },
     )
 
 pub returns-then-n-eq0-clause-session : goal.returns-then-n-eq0-clause-session
@@ -59,15 +63,17 @@ returns-then-n-eq0-clause-session g c =
     let none : take n c.read.new.buf ≡ [] = ap (λ k. take k c.read.new.buf) c.if-n-eq0.true in
     let both = Consumes-trans (g.L.Link.left c.args.link.now) (g.L.Link.left c.reading.link) (g.L.Link.left c.read.new.self) inv.taken (take n c.read.new.buf)
     inv.consumed c.in-Ok.ensures.bytes.0 in (
-      inv.taken,
       inv.ps,
-      inv.written,
-      c.reading.counter + 1,
-      subst (Consumes (g.L.Link.left c.args.link.now) (g.L.Link.left c.read.new.self)) (ap (λ x. inv.taken ++ x) none ∙ append-nil inv.taken) both,
       inv.pairs,
-      subst (λ (x : Option (List ℕ)). Appends (g.L.Link.sent c.args.link.now) x inv.written) (sym c.read.ensures.sent) inv.sent,
-      omega (arith, c.read.ensures.reads, inv.reads),
-      Serves-closed c.args.limits.requests c.args.limits.reads c.reading.left (c.reading.counter + 1) inv.taken inv.next inv.written inv.ps inv.count (omega arith) inv.unended inv.goes,
+      record {
+        taken = inv.taken;
+        written = inv.written;
+        count = c.reading.counter + 1;
+        consumed = subst (Consumes (g.L.Link.left c.args.link.now) (g.L.Link.left c.read.new.self)) (ap (λ x. inv.taken ++ x) none ∙ append-nil inv.taken) both;
+        appended = subst (λ (x : Option (List ℕ)). Appends (g.L.Link.sent c.args.link.now) x inv.written) (sym c.read.ensures.sent) inv.sent;
+        counted = omega (arith, c.read.ensures.reads, inv.reads);
+        served = Serves-closed c.args.limits.requests c.args.limits.reads c.reading.left (c.reading.counter + 1) inv.taken inv.next inv.written inv.ps inv.count (omega arith) inv.unended inv.goes;
+      },
     )
 
 pub returns-in-Err-clause-session : goal.returns-in-Err-clause-session
@@ -82,16 +88,18 @@ returns-in-Err-clause-session g c =
     let pairs = got.4 ∙ ap (λ x. x ++ got.1) inv.pairs ∙ append_assoc (g.D.Desk.pairs c.args.desk.now) inv.ps got.1 in
     let wrote = Appends-trans (g.L.Link.sent c.args.link.now) (g.L.Link.sent c.read.new.self) (g.L.Link.sent c.take_piece.new.link) inv.written got.2 sent got.5 in
     let T : TakesPiece c.reading.left (inv.next ++ piece) got.1 got.2 c.take_piece.new.left c.take_piece.new.lines (Err c.in-Err.end) = rw start at got.6 in (
-      inv.taken ++ piece,
       inv.ps ++ got.1,
-      inv.written ++ got.2,
-      c.reading.counter + 1,
-      consumed,
       pairs,
-      wrote,
-      omega (arith, c.take_piece.ensures.reads, c.read.ensures.reads, inv.reads),
-      Serves-then c.args.limits.requests c.args.limits.reads c.reading.left (c.reading.counter + 1) inv.taken piece inv.next inv.written got.2 inv.ps got.1 c.in-Err.end
-          inv.count (omega arith) inv.goes T,
+      record {
+        taken = inv.taken ++ piece;
+        written = inv.written ++ got.2;
+        count = c.reading.counter + 1;
+        consumed = consumed;
+        appended = wrote;
+        counted = omega (arith, c.take_piece.ensures.reads, c.read.ensures.reads, inv.reads);
+        served = Serves-then c.args.limits.requests c.args.limits.reads c.reading.left (c.reading.counter + 1) inv.taken piece inv.next inv.written got.2 inv.ps got.1 c.in-Err.end
+            inv.count (omega arith) inv.goes T;
+      },
     )
 
 pub reading-preserved : goal.reading-preserved
@@ -129,13 +137,15 @@ returns-clause-session g c =
     let worn : c.reading.counter ≡ c.args.limits.reads = omega arith in
     let W = Serves-worn c.args.limits.requests c.args.limits.reads c.reading.left c.reading.counter inv.taken inv.next inv.written inv.ps (g.L.Link.sent c.reading.link) (g.L.Link.sent c.refuse.new.link)
     c.refuse.result inv.count worn inv.unended inv.goes c.refuse.ensures.told in (
-      inv.taken,
       inv.ps,
-      inv.written ++ W.0,
-      c.reading.counter,
-      subst (λ (x : Option (List ℕ)). Consumes (g.L.Link.left c.args.link.now) x inv.taken) (sym c.refuse.ensures.left) inv.consumed,
       inv.pairs,
-      Appends-trans (g.L.Link.sent c.args.link.now) (g.L.Link.sent c.reading.link) (g.L.Link.sent c.refuse.new.link) inv.written W.0 inv.sent W.1,
-      c.refuse.ensures.reads ∙ inv.reads,
-      W.2,
+      record {
+        taken = inv.taken;
+        written = inv.written ++ W.0;
+        count = c.reading.counter;
+        consumed = subst (λ (x : Option (List ℕ)). Consumes (g.L.Link.left c.args.link.now) x inv.taken) (sym c.refuse.ensures.left) inv.consumed;
+        appended = Appends-trans (g.L.Link.sent c.args.link.now) (g.L.Link.sent c.reading.link) (g.L.Link.sent c.refuse.new.link) inv.written W.0 inv.sent W.1;
+        counted = c.refuse.ensures.reads ∙ inv.reads;
+        served = W.2;
+      },
     )

@@ -20,18 +20,7 @@ turns-preserved-in-Serve g c =
       turns = then_served _ _ _ _ _ _ _ _ _ _ (then_tried _ _ _ _ _ _ _ _ _ was.turns was.same tried.tries) (tried.same ∙ was.same) (
         c.run_session_within-ended.new.link,
         c.run_session_within-ended.result,
-        session.0,
-        session.1,
-        session.2,
-        session.3,
-        session.4,
-        session.5,
-        session.6,
-        session.7,
-        session.8,
-        session.9,
-        session.10,
-        session.11,
+        session,
       );
     }
 
