@@ -36,6 +36,7 @@ impl<B: Names> Post<B> {
     pub fn new(alloc: Global, seat: Seat<B>) -> Post<B>
         ensures seat { result.seat ≡ seat }
         ensures waiting { result.waiting.items ≡ [] }
+        ensures ranges { result.ranges.items ≡ [] }
     {
         Post {
             seat,
@@ -57,9 +58,11 @@ impl<B: Names> Post<B> {
     }
 }
 
-/// A post at each seat, in their order. None for want of memory.
+/// A post at each seat, in their order, where no client waits. None for want of memory.
 pub fn posts_at<B: Names>(alloc: Global, seats: Vec<Seat<B>>) -> Option<Vec<Post<B>>>
-    ensures { IfSome result (λ v. map (λ p. p.seat) v.items ≡ seats.items) }
+    ensures seats { IfSome result (λ v. map (λ p. p.seat) v.items ≡ seats.items) }
+    ensures waiting { IfSome result
+        (λ v. map (λ p. p.waiting.items) v.items ≡ map (λ s. []) seats.items) }
 {
     let Ok(mut posts) = Vec::with_capacity(alloc, seats.len()) else {
         return None;
