@@ -209,6 +209,15 @@ pub record SessionState : Type 0 where
   pub listed : ℕ
   pub pairs : List Pair
 
+-- with a request more, and its answer
+abbrev pub answered : SessionState → Request → Answer → SessionState
+answered s r a = record {
+  number = s.number;
+  client = next_client s.client a;
+  listed = s.listed + count_listed a;
+  pairs = s.pairs ++ record { request = r; answer = a } ∷ [];
+}
+
 -- What the requests at the front are answered is what their asks may be answered.
 abbrev pub IsToldTo : Option Ask → Told → Type 0
 IsToldTo None x = ⊥

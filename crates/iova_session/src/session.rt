@@ -1,7 +1,7 @@
 //! The state of a session: its client, how many ranges its lists had, and its requests with their
 //! answers.
-ghost use Rattle.std.specs.Prelude.{◌≡◌, ◌+◌, ◌++◌, ◌∷◌, [], None};
-ghost use Rattle.iova_session.specs.Desks.{SessionState, IsAnswer, next_client as the_next_client, count_listed as listed_in};
+ghost use Rattle.std.specs.Prelude.{◌≡◌, ◌+◌, [], None};
+ghost use Rattle.iova_session.specs.Desks.{SessionState, IsAnswer, answered, next_client as the_next_client, count_listed as listed_in};
 
 use crate::pairs::Pairs;
 use iova_model::step::ClientId;
@@ -83,12 +83,7 @@ impl Session {
     #[inline(always)]
     pub(crate) fn add(&mut self, request: Request, answer: &Answer)
         requires { IsAnswer self.old.number self.old.client self.old.listed request answer.now }
-        ensures { self.new ≡ record {
-          number = self.old.number;
-          client = the_next_client self.old.client answer.now;
-          listed = self.old.listed + listed_in answer.now;
-          pairs = self.old.pairs ++ record { request = request; answer = answer.now } ∷ [];
-        } }
+        ensures { self.new ≡ answered self.old request answer.now }
     {
         let listed = self.listed + count_listed(answer);
         self.log.add(request, answer);

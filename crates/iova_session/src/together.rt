@@ -3,7 +3,7 @@ ghost use Rattle.std.specs.Prelude.{◌≡◌, ◌+◌, ◌≤◌, ◌++◌, ◌
 ghost use Rattle.iova_sink.specs.Calls.{Call};
 ghost use Rattle.iova_keep.specs.Views.{WhereKnown, MovesSharesAlone};
 ghost use Rattle.iova_session.specs.Leading.{GoesOn, IsSame};
-ghost use Rattle.iova_session.specs.Desks.{ask_of as the_ask_of, asks_in, answer_of as the_answer_of, told_pairs, AreTold, IsAnswer, IsFirstAlone, AnswersRun, next_client, count_listed};
+ghost use Rattle.iova_session.specs.Desks.{ask_of as the_ask_of, asks_in, answer_of as the_answer_of, told_pairs, AreTold, IsAnswer, IsFirstAlone, AnswersRun, answered};
 
 use crate::session::Session;
 use iova_keep::ask::{Ask, Told};
@@ -244,13 +244,7 @@ fn tell_any(session: &mut Session, request: Request, told: &Told, answers: &mut 
     requires is { IsAnswer session.old.number session.old.client session.old.listed request
         (the_answer_of told.now) }
     requires room { vec_len answers.old + 1 ≤ vec_capacity answers.old }
-    ensures session { session.new ≡ record {
-      number = session.old.number;
-      client = next_client session.old.client (the_answer_of told.now);
-      listed = session.old.listed + count_listed (the_answer_of told.now);
-      pairs = session.old.pairs
-          ++ record { request = request; answer = the_answer_of told.now } ∷ [];
-    } }
+    ensures session { session.new ≡ answered session.old request (the_answer_of told.now) }
     ensures answers { answers.new.items ≡ answers.old.items ++ the_answer_of told.now ∷ [] }
     ensures kept { vec_capacity answers.old ≤ vec_capacity answers.new }
 {
@@ -272,12 +266,7 @@ pub(crate) fn tell(
 )
     requires is { IsAnswer session.old.number session.old.client session.old.listed request answer }
     requires room { vec_len answers.old + 1 ≤ vec_capacity answers.old }
-    ensures session { session.new ≡ record {
-      number = session.old.number;
-      client = next_client session.old.client answer;
-      listed = session.old.listed + count_listed answer;
-      pairs = session.old.pairs ++ record { request = request; answer = answer } ∷ [];
-    } }
+    ensures session { session.new ≡ answered session.old request answer }
     ensures answers { answers.new.items ≡ answers.old.items ++ answer ∷ [] }
     ensures kept { vec_capacity answers.old ≤ vec_capacity answers.new }
 {
