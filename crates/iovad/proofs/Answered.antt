@@ -1,7 +1,6 @@
 -- The result of serving, from the beginning of a domain to its end.
 use Rattle.std.proofs.Common.{ℕ, zero, suc, ◌≡◌, ◌∙◌, ◌+◌, ◌*◌, ◌%◌, ◌≤◌, List, [], ◌∷◌, ◌++◌, map, length, refl, sym, ap, arith, subst}
 use Rattle.std.specs.Prelude.{IfSome, Option, slice_get, sum_by}
-use Rattle.std.specs.List.{AllByRecursion}
 use Rattle.std.proofs.Math.Nat.{mul-suc}
 use Rattle.std.proofs.lemmas.List.Sums.{sum_by-append}
 use Rattle.iova_range.specs.declared.limits.TheConstants.{SEAT_PARTS}
@@ -34,12 +33,6 @@ none_counted workers (suc n) =
     sum_by-append good (seats_in_turn SEAT_PARTS workers n) (seat_with SEAT_PARTS (n % workers) ∷ []) in
     let more : tally_good (seats_in_turn SEAT_PARTS workers n) ≡ 0 = none_counted workers n in
     omega (arith, one, more)
-
--- sinks of which no call was made
-pub none_called : {D : Type 0} (calls : D → List Call) (sinks : List D) → AllByRecursion (λ s. calls s ≡ []) sinks
-    → AllByRecursion (λ made. made ≡ []) (map calls sinks)
-none_called calls [] all = tt
-none_called calls (s ∷ ss) all = (all.0, none_called calls ss all.1)
 
 -- the first sink stays the first where one more is opened
 pub first_opened : {D : Type 0} (path : SinkPath) (reset : Option ℕ) (xs : List (EitherSink (RecordSinkState D) (Asking Talk)))

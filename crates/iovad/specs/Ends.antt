@@ -1,6 +1,5 @@
 -- The result of serving, from the beginning of a domain to its end.
 use Rattle.std.specs.Prelude.{ℕ, ◌≡◌, ◌+◌, ◌≤◌, List, [], Option, Some, None, map, sum_by}
-use Rattle.std.specs.List.{AllByRecursion}
 use Rattle.iova_model.specs.State.{State}
 use Rattle.iova_sink.specs.Calls.{Call, good_calls}
 use Rattle.iova_keep.specs.Views.{SeatState, TallyState, RisesWithin}
@@ -29,9 +28,8 @@ EndsCounted seats tally last domain =
     domain.flushes.good ≤ tally_good seats + tally.good + good_calls last
 
 -- All flushes that a domain counts as ended well, from its beginning to its end, are no more than
--- the good calls that sinks were given: those of the posts and the flusher's, of which no call was
--- made before, and that of the last round.
-pub record IsAnswered (domain : State) (before now : List (List Call)) (flusher last : List Call)
-    : Type 0 where
-  pub unused : AllByRecursion (λ calls. calls ≡ []) before
-  pub good : domain.flushes.good ≤ sum_by good_calls now + good_calls flusher + good_calls last
+-- the good calls that sinks were given: those of the posts and the flusher's, and that of the last
+-- round.
+abbrev pub IsAnswered : State → List (List Call) → List Call → List Call → Type 0
+IsAnswered domain posts flusher last =
+    domain.flushes.good ≤ sum_by good_calls posts + good_calls flusher + good_calls last

@@ -389,9 +389,8 @@ where
     requires parts { B.ledgers.good.parts ≡ SEAT_PARTS * shared.seats }
     requires sinks { vec_len sinks ≡ vec_len posts + 1 }
     requires unused { AllByRecursion (λ s. D.calls s ≡ []) sinks.items }
-    ensures { IfOk result (λ e. IsAnswered e.rest.domain (map D.calls sinks.items)
-        (map D.calls e.sinks.items) (D.calls e.sink)
-        (last_calls ⟦<OpenedSink<'a, R> as Sink>⟧.calls e.last)) }
+    ensures { IfOk result (λ e. IsAnswered e.rest.domain (map D.calls e.sinks.items)
+        (D.calls e.sink) (last_calls ⟦<OpenedSink<'a, R> as Sink>⟧.calls e.last)) }
 {
     // so the end needs no memory for the seats
     let Ok(room) = Vec::with_capacity(run.rt.alloc(), posts.len()) else {

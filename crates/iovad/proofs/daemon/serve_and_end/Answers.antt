@@ -2,7 +2,7 @@ use Rattle.std.proofs.Common.{◌≡◌, ◌≤◌, ◌∙◌, map, length, sym,
 use Rattle.std.proofs.lemmas.List.{length-map}
 use Rattle.iova_lock.specs.Books.{tally_parts, tally_good}
 use Rattle.iovad.specs.Ends.{workers_of}
-use Rattle.iovad.proofs.Answered.{new_parts, none_called, none_counted}
+use Rattle.iovad.proofs.Answered.{new_parts, none_counted}
 use Rattle.iovad.proofs.Gathering.{first_parts, same_length, some_posts, workers_at}
 use Rattle.iovad.proofs.daemon.serve_and_end.Goals as goal
 
@@ -41,7 +41,5 @@ end_service-requires-clause-room g c κs within =
 pub returns-in-Ok-served : goal.returns-in-Ok-served
 returns-in-Ok-served g c =
     let none = ap tally_good c.requires.posts.turn ∙ none_counted c.args.shared.workers c.args.shared.seats in
-    rw c.end_service.ensures.sinks.0 (rw c.end_service.ensures.sinks.1 (record {
-      unused = none_called _ c.args.sinks.items c.requires.unused;
-      good = omega (arith, none, c.in-Ok-served.ensures.within, c.end_service.ensures.ended);
-    }))
+    rw c.end_service.ensures.sinks.0 (rw c.end_service.ensures.sinks.1
+    (omega (arith, none, c.in-Ok-served.ensures.within, c.end_service.ensures.ended)))
