@@ -1,6 +1,7 @@
 //! What the threads of a daemon share beside its domain and the pool of its session threads.
 use crate::worker::WorkerContext;
 use iova_links::control_task::{DaemonMetrics, MetricsSource};
+use iova_links::loads::place_of;
 use iova_links::pause::milliseconds;
 use iova_model::step::ClientId;
 use iova_range::limits::MAX_WORKERS;
@@ -49,17 +50,12 @@ impl DaemonState {
     /// A session thread of this worker is to try its waiting clients. Whether it may: it may not
     /// while another one does.
     pub(crate) fn begin_trying(&self, worker: u64) -> bool {
-        match self.trying.get(worker as usize) {
-            Some(trying) => !trying.swap(true, Ordering::SeqCst),
-            None => true,
-        }
+        !self.trying[place_of(worker)].swap(true, Ordering::SeqCst)
     }
 
     /// The session thread that might try has done so.
     pub(crate) fn end_trying(&self, worker: u64) {
-        if let Some(trying) = self.trying.get(worker as usize) {
-            trying.store(false, Ordering::SeqCst);
-        }
+        self.trying[place_of(worker)].store(false, Ordering::SeqCst);
     }
 
     /// These clients of the session thread wait now: gives their number, and notes them where it
@@ -76,7 +72,14 @@ impl DaemonState {
         if count != before {
             self.waiting.fetch_add(count, Ordering::SeqCst);
             self.waiting.fetch_sub(before, Ordering::SeqCst);
-            note_all(&mut self.noted.lock(rt), thread, clients);
+            let mut noted = self.noted.lock(rt);
+            noted.retain(|note| note.thread != thread);
+            if noted.try_reserve(clients.len()).is_ok() {
+                for client in clients {
+                    let client = *client;
+                    let _ = noted.push(Noted { thread, client });
+                }
+            }
         }
         count
     }
@@ -97,18 +100,6 @@ impl DaemonState {
     /// Whether all session threads have ended.
     pub(crate) fn have_ended(&self) -> bool {
         self.threads.load(Ordering::SeqCst) == 0
-    }
-}
-
-/// Puts these clients of the session thread in place of those that were noted. None of them where
-/// memory is refused.
-fn note_all(noted: &mut Vec<Noted>, thread: u64, clients: &[ClientId]) {
-    noted.retain(|note| note.thread != thread);
-    if noted.try_reserve(clients.len()).is_ok() {
-        for client in clients {
-            let client = *client;
-            let _ = noted.push(Noted { thread, client });
-        }
     }
 }
 

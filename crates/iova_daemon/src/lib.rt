@@ -37,7 +37,7 @@ use std::alloc::Global;
 use std::rt::Clock;
 use std::snapshot::Snapshot;
 use std::sync::Wait;
-use std::thread::{JoinHandle, PromisedHandle, Scope, Threads};
+use std::thread::{PromisedHandle, Threads};
 use std::{io, thread};
 
 /// What serving leaves.
@@ -330,11 +330,19 @@ where
                     }
                 }
             }
-            let Some(control_task) = start_control_task(scope, context) else {
-                drop(gate);
-                join_all(rt, started, &mut back, &mut given);
-                return Err(Refusal::LinkFault);
-            };
+            let mut control_task = None;
+            if context.accept.is_wanted() {
+                match scope.spawn(move || context.run_control_task()) {
+                    Ok(handle) => control_task = Some(handle),
+                    Err(error) => {
+                        let error = io::Error::from(error);
+                        error!(context.notices; target: "", "control task: {error}");
+                        drop(gate);
+                        join_all(rt, started, &mut back, &mut given);
+                        return Err(Refusal::LinkFault);
+                    }
+                }
+            }
             *gate = true;
             drop(gate);
             flusher.go_on();
@@ -351,34 +359,6 @@ where
             })
         },
     )
-}
-
-/// Starts the control task, where one is wanted. None where its thread can't be started.
-fn start_control_task<'s, E, R, N, K, L, A>(
-    scope: &Scope<'s, E>,
-    context: &'s WorkerContext<'s, R, N, K, L, A>,
-) -> Option<Option<JoinHandle<()>>>
-where
-    E: 's,
-    R: Wait + Clock + Sync + 's,
-    N: Log + Sync + 's,
-    K: Look + Sync + 's,
-    L: Link + Send + Drop + 's,
-    A: Accept<L> + ControlTask + Sync + 's,
-{
-    // for the proof: that it may be shared
-    pools_are_sync::<L>();
-    if !context.accept.is_wanted() {
-        return Some(None);
-    }
-    match scope.spawn(move || context.run_control_task()) {
-        Ok(handle) => Some(Some(handle)),
-        Err(error) => {
-            let error = io::Error::from(error);
-            error!(context.notices; target: "", "control task: {error}");
-            None
-        }
-    }
 }
 
 /// Joins each thread, and puts its post and its sink after those that are there.

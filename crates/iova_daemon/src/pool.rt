@@ -1,7 +1,5 @@
-//! Where posts without a session wait for links. One of them, the leader, waits at the listener;
-//! the others sleep. A post at which no client waits is free. A link goes to the worker that serves
-//! the fewest sessions of those with a free post, and whoever gets it serves it. A post at which
-//! clients wait rests: it leads, and serves, only where no post is free.
+//! Where posts without a session wait for links: which of them is free, leads or rests, and which
+//! worker gets a link, is as `serve_sessions` says.
 ghost use Rattle.std.specs.Prelude.{◌≡◌, ◌<◌};
 ghost use Rattle.iova_range.specs.declared.limits.TheConstants.{MAX_WORKERS};
 
@@ -51,9 +49,7 @@ impl<L: Drop> Pool<L> {
     /// No post has come, and none of these sessions is served. There is room for links that are
     /// handed over, one for each of so many posts: none where it is refused.
     pub(crate) fn new(alloc: Global, serving: Serving, posts: usize) -> Option<Pool<L>> {
-        let Ok(handed) = Vec::with_capacity(alloc, posts) else {
-            return None;
-        };
+        let handed = Vec::with_capacity(alloc, posts).ok()?;
         Some(Pool {
             state: Mutex::new(State {
                 serving,
@@ -85,12 +81,15 @@ impl<L: Drop> Pool<L> {
         turn
     }
 
-    /// What the post is to do next; `wait` wakes others where they have to know of it.
+    /// What the post, which comes to the pool, is to do; `wait` wakes others that have to know.
     fn turn<R: Wait + Clock>(&self, rt: &R, at: usize, rests: bool) -> Turn<L>
         requires { at < MAX_WORKERS }
     {
         let mut state = self.state.lock(rt);
-        state.come(at, rests);
+        if !rests {
+            let load = &mut state.loads[at];
+            load.free = load.free.saturating_add(1);
+        }
         if let Some(turn) = state.turn(at, rests) {
             return turn;
         }
@@ -165,10 +164,7 @@ impl<L: Drop> Pool<L> {
 
     /// How many sessions of this worker are served.
     pub(crate) fn sessions<R: Wait>(&self, rt: &R, worker: u64) -> u64 {
-        match self.state.lock(rt).loads.get(place_of(worker)) {
-            Some(load) => load.sessions,
-            None => 0,
-        }
+        self.state.lock(rt).loads[place_of(worker)].sessions
     }
 
     /// No session is to come.
@@ -226,14 +222,7 @@ struct State<L> {
 }
 
 impl<L: Drop> State<L> {
-    /// A post comes, and is free where it doesn't rest.
-    fn come(&mut self, at: usize, rests: bool) {
-        if !rests && let Some(load) = self.loads.get_mut(at) {
-            load.free = load.free.saturating_add(1);
-        }
-    }
-
-    /// A post goes.
+    /// A post goes, which was free where it doesn't rest.
     fn go(&mut self, at: usize, rests: bool) {
         if !rests && let Some(load) = self.loads.get_mut(at) {
             load.free = load.free.saturating_sub(1);

@@ -130,23 +130,19 @@ where
         unreachable!()
     }
 
-    /// What a post of this worker, which may rest, does next: it waits in the pool, and accepts a
-    /// link where it is to lead. Where no link is to come, the pool ends.
+    /// What a post of this worker, which may rest, does next: it waits in the pool, and where it is
+    /// to lead it accepts a link, within a second where it rests. It serves it, or hands it over or,
+    /// where it got none, gives way. Where no link is to come, the pool ends.
     fn next(&self, worker: u64, rests: bool) -> Turn<L> {
         if self.accept.has_ended() {
             self.accept.close();
             self.pool.end(self.rt);
             return Turn::End;
         }
-        match self.pool.wait(self.rt, worker, rests) {
-            Turn::Lead(session) => self.lead(worker, session, rests),
-            turn => turn,
-        }
-    }
-
-    /// Accepts a link for the session of this number, where the post rests within a second. The
-    /// post serves it, or hands it over or, where it got none, gives way.
-    fn lead(&self, worker: u64, session: u64, rests: bool) -> Turn<L> {
+        let session = match self.pool.wait(self.rt, worker, rests) {
+            Turn::Lead(session) => session,
+            turn => return turn,
+        };
         let limit = if rests { Some(RETRY_PAUSE) } else { None };
         let accepted = if self.accept.has_ended() {
             Ok(None)
