@@ -136,8 +136,8 @@ flush_told number odd = (if odd then Some (finding.Flush number) else None) ∷ 
 
 -- the findings of a line that says `e`, where the frames are at these stages and these flushes in
 -- flight before it
-abbrev pub AreFindings : AllowedBounds → (ℕ → Stage) → (ℕ → Option OpenFlush) → Event → List (Option Finding)
-    → Type 0
+abbrev pub AreFindings : AllowedBounds → (ℕ → Stage) → (ℕ → Option OpenFlush) → Event
+    → List (Option Finding) → Type 0
 AreFindings bounds at flights (event.Map r) fs = IsMapTold bounds at r fs
 AreFindings bounds at flights (event.Unmap r) fs = IsUnmapTold bounds at r fs
 AreFindings bounds at flights (event.Use r) fs = IsUseTold bounds at r fs

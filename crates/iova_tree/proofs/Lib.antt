@@ -15,6 +15,7 @@ mod Windows
 mod Spaces
 mod Taking
 mod Kept
+mod Moved
 mod Takes
 mod Hinted
 mod Bounds

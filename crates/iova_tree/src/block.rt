@@ -1,5 +1,5 @@
 //! Ranges that rise apart, side by side in a block: a leaf of the tree.
-ghost use Rattle.std.specs.Prelude.{max, take, drop, ◌≡◌, ◌+◌, ◌<◌, ◌≤◌, ◌-◌, [], ◌∷◌, ◌++◌, length, true, false, insert, remove, Some, None, IfSome, IfNone};
+ghost use Rattle.std.specs.Prelude.{max, take, drop, ◌≡◌, ◌+◌, ◌<◌, ◌≤◌, ◌-◌, [], ◌∷◌, ◌++◌, length, true, false, insert, remove, Some, None, IfSome, IfNone, is_ok, if◌then◌else◌};
 ghost use Rattle.iova_tree.specs.Spans.{Span as Seen, first_lo, end_after, room_after, room_between, with_span, has_frame, is_taken_between, IsRisingFrom, Holds, StandsHere};
 ghost use Rattle.std.specs.List.{list_any};
 ghost use Rattle.iova_tree.specs.Fit.{IsWanted, highest_after, taken};
@@ -96,7 +96,7 @@ impl Node for Block {
             return FoundPlace::At(lo);
         }
         let span = Span::new(lo, lo + wanted.size, false);
-        let Ok(()) = self.spans.insert(hint.at, span) else {
+        let Ok(()) = put_in(&mut self.spans, hint.at, span) else {
             return FoundPlace::At(lo);
         };
         self.hint = hint_once_taken(&self.spans, hint);
@@ -123,9 +123,7 @@ impl Node for Block {
         let at = place_of(&self.spans, span.lo());
         let is_most = gap_below(&self.spans, span.lo(), at) >= *room as u64;
         let known = room_with_one(&self.spans, at, span, *room);
-        let Ok(()) = self.spans.insert(at, span) else {
-            return Err(AllocError);
-        };
+        put_in(&mut self.spans, at, span)?;
         self.hint = Hint::none();
         *room = room_among_or(&self.spans, is_most, known);
         Ok(())
@@ -163,6 +161,23 @@ fn place_of(spans: &[Span], lo: u64) -> usize
     ensures stands { Holds lo spans.now → StandsHere lo spans.now result }
 {
     spans.partition_point(|span| span.lo() < lo)
+}
+
+// Puts a range in at this place, and those from there on one place up. Where there is room it takes
+// no memory.
+#[inline]
+fn put_in(spans: &mut Vec<Span>, at: usize, span: Span) -> Result<(), AllocError>
+    requires within { at ≤ length spans.old.items }
+    ensures items { spans.new.items ≡ (if is_ok result then insert spans.old.items at span
+        else spans.old.items) }
+{
+    let count = spans.len();
+    let Ok(()) = spans.push(span) else {
+        return Err(AllocError);
+    };
+    spans.copy_within(at..count, at + 1);
+    spans[at] = span;
+    Ok(())
 }
 
 // Where the range that begins at `lo` stands. The place below the hint's is a guess: ranges go in

@@ -9,7 +9,7 @@ ghost use Rattle.iova_tree.specs.Fit.{IsWanted, IsFound, highest_after, taken};
 ghost use Rattle.iova_tree.specs.Branches.{spans_below, AreLinked, AreAllBelow, AreAtMost, IsLinked, LeadsTo, AreHinted, KeepBounds, IsSameLink, highest_behind};
 
 use crate::node::Node;
-use crate::room::room_with;
+use crate::room::{MOST_ROOM, room_with};
 use crate::search::{FoundPlace, Hint, Wanted};
 use crate::span::Span;
 use iova_range::limits::MAX_FRAMES;
@@ -18,9 +18,6 @@ use std::marker::Model;
 
 /// The links of a branch that is full.
 pub const BRANCH: usize = 64;
-
-/// The most room that a gap may have.
-pub const MOST_ROOM: u32 = MAX_FRAMES as u32;
 
 /// The way to a node that has a range, and what is known of its ranges: where the lowest begins and
 /// the highest ends, and a bound for the sizes that fit aligned between two neighbours. But for a
@@ -626,7 +623,12 @@ fn take_renewed<N: Node>(
 // Takes the highest place in a gap below one of the ranges and above `from`, where its block has
 // room for a range. Nothing fits behind the link at this place.
 #[inline]
-fn take_highest<N: Node>(links: &mut [Link<N>], start: usize, from: u64, wanted: &Wanted) -> FoundPlace
+fn take_highest<N: Node>(
+    links: &mut [Link<N>],
+    start: usize,
+    from: u64,
+    wanted: &Wanted,
+) -> FoundPlace
     requires within { start < length links.old }
     requires above { AreAllBelow wanted.now.size (drop (start + 1) links.old) }
     requires wanted { IsWanted wanted.now }

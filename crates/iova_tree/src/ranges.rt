@@ -7,9 +7,9 @@ ghost use Rattle.iova_tree.specs.Spans.{all_of, inserted_of, end_after, room_aft
 ghost use Rattle.iova_tree.specs.Fit.{IsWanted, IsFound, taken, highest_free};
 
 use crate::block::Block;
-use crate::branch::{Branch, MOST_ROOM};
+use crate::branch::Branch;
 use crate::node::Node;
-use crate::room::room_with;
+use crate::room::{MOST_ROOM, room_with};
 use crate::search::{FoundPlace, Wanted, place_in};
 use crate::span::Span;
 use std::alloc::{AllocError, Global};
@@ -64,9 +64,6 @@ impl Ranges {
         requires rising { IsRisingFrom start self.now }
         ensures { room_after start self.now ≤ result }
     {
-        if self.room >= MOST_ROOM {
-            return self.room;
-        }
         if self.root.is_empty() {
             return self.room;
         }

@@ -4,6 +4,9 @@ ghost use Rattle.iova_tree.specs.Room.{room, FitsBetween};
 
 use iova_range::limits::MAX_FRAMES;
 
+/// The most room that a gap may have.
+pub const MOST_ROOM: u32 = MAX_FRAMES as u32;
+
 /// A gap of so many frames is long: where a bound is wanted, its room is computed (own: measured).
 const LONG_GAP: u64 = 64;
 
@@ -51,13 +54,17 @@ pub fn room_above(known: u32, from: u64, until: u64) -> Option<u32>
     if room > known { Some(room) } else { None }
 }
 
-/// The greater of `known` and of the room of the frames from `from` on and below `until`.
+/// The greater of `known` and of the room of the frames from `from` on and below `until`, which is
+/// computed only where `known` is less than the most.
 #[inline]
 pub fn room_with(known: u32, from: u64, until: u64) -> u32
     requires some { 1 ≤ from }
     requires apart { from ≤ until }
     ensures { result ≡ max known (room from until) }
 {
+    if known >= MOST_ROOM {
+        return known;
+    }
     match room_above(known, from, until) {
         Some(more) => more,
         None => known,

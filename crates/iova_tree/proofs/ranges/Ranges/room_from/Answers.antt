@@ -1,11 +1,8 @@
 use Rattle.std.proofs.Common.{◌≤◌, arith}
 use Rattle.iova_tree.specs.Spans.{room_between}
-use Rattle.iova_tree.proofs.Blocks.{room_after-bounded, rising_front}
+use Rattle.iova_tree.proofs.Blocks.{rising_front}
 use Rattle.iova_tree.proofs.Branches.{room_after-first}
 use Rattle.iova_tree.proofs.ranges.Ranges.room_from.Goals as goal
-
-pub returns-then-self-ge-MOST_ROOM : goal.returns-then-self-ge-MOST_ROOM
-returns-then-self-ge-MOST_ROOM c = omega (arith, room_after-bounded c.args.start c.args.self.now, c.if-self-ge-MOST_ROOM.true)
 
 pub returns-then-is_empty : goal.returns-then-is_empty
 returns-then-is_empty c =
