@@ -4,13 +4,11 @@ ghost use Rattle.iova_range.specs.declared.limits.TheConstants.{MAX_HOLDINGS};
 ghost use Rattle.iova_keep.specs.Views.{WhereKnown, KeepsPlace};
 ghost use Rattle.iova_session.specs.Domains.{LeavesOthers};
 ghost use Rattle.iova_session.specs.Gone.{HasRoom};
-ghost use Rattle.iova_session.specs.Leading.{EndDoes, LeadsFrom, moment};
-ghost use Rattle.iova_session.specs.Pairs.{Pair};
-ghost use Rattle.iova_session.specs.Sessions.{ServesOver, usual_limits, failures_at, ends_at};
-ghost use Rattle.iova_session.specs.Desks.{AreAnswers, MovesBy, given_in, taken_in, client_after};
+ghost use Rattle.iova_session.specs.Leading.{EndDoes, moment};
+ghost use Rattle.iova_session.specs.Sessions.{usual_limits, failures_at, ends_at};
 ghost use Rattle.iova_session.specs.Leaving.{still_waits};
 ghost use Rattle.iova_session.specs.Posts.{EndsFrom, Fits, TellsFitting, kept_if};
-ghost use Rattle.iova_session.specs.PostSessions.{RunsSession, between};
+ghost use Rattle.iova_session.specs.PostSessions.{RunsSession, ServesAtSeat, between};
 
 use crate::end::End;
 use crate::leaving::{leave, waits};
@@ -68,16 +66,12 @@ fn serve_with<'a, B: Names, K: Keep<B>, D: Sink, L: Link, O: SessionStart>(
         × (result.access.seat.ghost_name ≡ access.entry.seat.ghost_name)
         × (result.access.sink.ghost_name ≡ access.entry.sink.ghost_name) }
     ensures same { K.identity result.access.keeper.now ≡ K.identity access.entry.keeper.now }
-    ensures session { (ps : List Pair)
-        × ServesOver L.left L.sent L.reads limits link.old link.new ps result.end
-        × AreAnswers (K.identity access.entry.keeper.now).number None 0 ps
-        × (result.client ≡ client_after None ps)
-        × MovesBy (given_in ps) (taken_in ps) access.entry.seat.now.held result.access.seat.now.held
-        × ∥ WhereKnown (K.domain access.entry.keeper.now) (K.domain result.access.keeper.now)
-        (LeadsFrom (K.identity access.entry.keeper.now).strict
-        (K.identity access.entry.keeper.now).number ps
+    ensures session { ServesAtSeat L.left L.sent L.reads limits
+        (K.identity access.entry.keeper.now).strict (K.identity access.entry.keeper.now).number
+        link.old link.new result.end result.client
         access.entry.seat.now result.access.seat.now
-        (D.calls access.entry.sink.now) (D.calls result.access.sink.now)) ∥₁ }
+        (D.calls access.entry.sink.now) (D.calls result.access.sink.now)
+        (K.domain access.entry.keeper.now) (K.domain result.access.keeper.now) }
     ensures failures { L.failures link.new ≡ L.failures link.old + failures_at result.end }
     ensures ends { L.ends link.new ≡ L.ends link.old + ends_at result.end }
     ensures place { KeepsPlace access.entry.seat.now result.access.seat.now
@@ -116,15 +110,9 @@ fn serve_at<B: Names, K: Keep<B>, D: Sink, L: Link>(
     sink: &mut D,
 ) -> (End, Option<ClientId>)
     ensures same { K.identity keeper.new ≡ K.identity keeper.old }
-    ensures session { (ps : List Pair)
-        × ServesOver L.left L.sent L.reads limits link.old link.new ps result.0
-        × AreAnswers (K.identity keeper.old).number None 0 ps
-        × (result.1 ≡ client_after None ps)
-        × MovesBy (given_in ps) (taken_in ps) seat.old.held seat.new.held
-        × ∥ WhereKnown (K.domain keeper.old) (K.domain keeper.new)
-        (LeadsFrom (K.identity keeper.old).strict
-        (K.identity keeper.old).number ps seat.old seat.new (D.calls sink.old) (D.calls sink.new))
-        ∥₁ }
+    ensures session { ServesAtSeat L.left L.sent L.reads limits (K.identity keeper.old).strict
+        (K.identity keeper.old).number link.old link.new result.0 result.1 seat.old seat.new
+        (D.calls sink.old) (D.calls sink.new) (K.domain keeper.old) (K.domain keeper.new) }
     ensures failures { L.failures link.new ≡ L.failures link.old + failures_at result.0 }
     ensures ends { L.ends link.new ≡ L.ends link.old + ends_at result.0 }
     ensures place { KeepsPlace seat.old seat.new (D.calls sink.old) (D.calls sink.new) }
