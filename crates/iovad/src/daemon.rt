@@ -368,11 +368,10 @@ struct Ended<D, E> {
     last: Option<E>,
 }
 
-/// Serves the plan's sessions with these sinks, one for each post and the flusher's, and ends the
-/// service: closes the sockets, tries the clients that wait once more, writes the record, and takes
-/// the domain out of its lock, once all seats and tallies have come back. So all flushes that the
-/// domain counts as ended well, from its beginning to its end, are within the good calls that the
-/// sinks were given.
+/// Serves the plan's sessions with these sinks, one for each post and the flusher's, closes the
+/// sockets, and ends the service, once all seats and tallies have come back. So all flushes that
+/// the domain counts as ended well, from its beginning to its end, are within the good calls that
+/// the sinks were given.
 fn serve_and_end<'a, 'p, R, B, D>(
     run: &Running<'a, 'p, R>,
     files: &mut StartFiles<'p>,
@@ -466,10 +465,8 @@ fn listen_for_sessions<'a, R: Host>(
     run: &Running<'a, '_, R>,
 ) -> Result<DaemonAccept<'a, R>, StartFault> {
     let (rt, plan) = (run.rt, run.plan);
-    let Some(listening) = listen(rt, run.notices, plan.socket, Access::Umask) else {
-        return Err(StartFault::SocketFault);
-    };
-    let (listener, file) = listening.into_parts();
+    let listening = listen(rt, run.notices, plan.socket, Access::Umask);
+    let (listener, file) = listening.ok_or(StartFault::SocketFault)?.into_parts();
     let time_outs = time_outs_of(plan);
     Ok(SocketAccept::new(rt, run.notices, file, listener, run.signals, time_outs))
 }
@@ -482,10 +479,8 @@ fn listen_for_control<'p, R: Host>(
     let Some(path) = run.plan.control else {
         return Ok(None);
     };
-    let Some(listening) = listen(run.rt, run.notices, path, Access::Private) else {
-        return Err(StartFault::SocketFault);
-    };
-    let (listener, file) = listening.into_parts();
+    let listening = listen(run.rt, run.notices, path, Access::Private);
+    let (listener, file) = listening.ok_or(StartFault::SocketFault)?.into_parts();
     run.control.listen(run.rt.alloc(), listener);
     Ok(Some(file))
 }
@@ -555,10 +550,7 @@ fn open_sinks_first<'a, R: Host>(
             return Err(StartFault::SocketFault);
         }
     }
-    match share_all(run.rt.alloc(), sinks) {
-        Some(shared) => Ok(shared),
-        None => Err(StartFault::NoMemory),
-    }
+    share_all(run.rt.alloc(), sinks).ok_or(StartFault::NoMemory)
 }
 
 /// So many sinks. The first one has sent its peer a `reset` of the domain. Refused by
@@ -577,9 +569,7 @@ fn open_sinks<'a, R: Host>(
     };
     for at in 0..count {
         let reset = if at == 0 { Some(run.plan.domain) } else { None };
-        let Some(sink) = open_one(run, SinkPlace::of(run.plan), reset) else {
-            return Err(StartFault::CannotOpenSink);
-        };
+        let sink = open_one(run, SinkPlace::of(run.plan), reset).ok_or(StartFault::CannotOpenSink)?;
         let Ok(()) = sinks.push(sink) else {
             unreachable!();
         };
@@ -613,10 +603,8 @@ fn open_record<'p, R: Host>(
         // no other file is read
         None => sink,
     };
-    match RecordFile::open(run.rt, run.notices, path, &[sink, regions]) {
-        Some(file) => Ok(Some(file)),
-        None => Err(StartFault::CannotWrite),
-    }
+    let file = RecordFile::open(run.rt, run.notices, path, &[sink, regions]);
+    Ok(Some(file.ok_or(StartFault::CannotWrite)?))
 }
 
 /// Prints the domain, where the record was written, and says what is left of it at clients and in
