@@ -52,10 +52,8 @@ where
     D: Sink,
     P: Pause,
 {
-    /// Makes a round after each pause, until a pause says stop or all workers have ended. A round
-    /// that is refused is a notice, and behind each whose sink failed the pause is twice as long,
-    /// up to a second. Where a round freed many entries or a flush was made ahead before it, it
-    /// flushes ahead in place of the next pause.
+    /// Makes rounds, with pauses between them, as `serve_sessions` says. Where a round freed many
+    /// entries or a flush was made ahead before it, it flushes ahead in place of the next pause.
     pub(crate) fn go_on(&mut self)
         ensures { KeepsTally self.old.tally self.new.tally (D.calls self.old.sink)
             (D.calls self.new.sink) }

@@ -48,9 +48,7 @@ where
 {
     /// The session thread of this number: waits at the gate, and then serves sessions at the post,
     /// each from its first byte to the end of its client, until none is to come. Its waiting
-    /// clients are tried again before each wait in the pool, where it waits for a second at most
-    /// while there are any: so a post that rests tries them about once a second, and before it
-    /// takes a session.
+    /// clients are tried again before each wait in the pool, and so before it takes a session.
     pub(crate) fn work<B: Names, D: Sink + Drop>(
         &self,
         thread: u64,
