@@ -61,11 +61,7 @@ struct Outcome {
 
 /// All sessions at this post, and then a round of tries. The sink fails in its first call, which is
 /// that of the first client that holds a range.
-fn serve_all<B: Names, K: Keep<B>>(
-    alloc: Global,
-    keeper: &mut K,
-    post: &mut Post<B>,
-) -> Outcome {
+fn serve_all<B: Names, K: Keep<B>>(alloc: Global, keeper: &mut K, post: &mut Post<B>) -> Outcome {
     let mut sink = MemorySink::new(1);
     let mut as_expected = 0usize;
     for (at, session) in SESSIONS.iter().enumerate() {

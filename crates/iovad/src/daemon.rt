@@ -1,6 +1,5 @@
 //! A daemon: the sessions of a plan, served on a socket, and the report of what they leave.
 ghost use Rattle.std.specs.Prelude.{◌≡◌, ◌<◌, ◌≤◌, ◌+◌, ◌*◌, ◌||◌, true, [], None, Some, Err, IfErr, IfOk, IfSome, is_some, map, length, slice_get, vec_len, vec_capacity};
-ghost use Rattle.std.specs.List.{AllByRecursion};
 ghost use Rattle.iova_range.specs.declared.limits.TheConstants.{SEAT_PARTS};
 ghost use Rattle.iova_keep.specs.Views.{AreBlanksOf, seats_in_turn};
 ghost use Rattle.iova_lock.specs.Books.{tally_parts};
@@ -32,7 +31,7 @@ use iova_keep::seat::Seat;
 use iova_links::accept::Accept;
 use iova_links::control_task::WithControl;
 use iova_links::dial::{Dial, UnixNet};
-use iova_links::locked_sink::SharedSink;
+use iova_links::locked_sink::{LockedSink, SharedSink};
 use iova_links::made_file::MadeFile;
 use iova_links::pause::Ticks;
 use iova_links::served_link::{ServedLink, TimeOuts};
@@ -131,7 +130,8 @@ where
     let warns = plan.log_level != LevelFilter::Error;
     let name = said.text("name").unwrap_or("");
     let console = CountedConsole::new(rt, &signals, warns, name);
-    let notices = Logged::new(rt, counted_level(plan), console);
+    // warnings are counted at any level, since those of flushes that failed are among them
+    let notices = Logged::new(rt, plan.log_level.max(LevelFilter::Warn), console);
     tell_start(&notices, said, &windows);
     let Some((shared, posts)) = new_domain::<R, B>(rt, plan, bounds, &windows, blanks) else {
         return Err(Fault::NoMemory);
@@ -150,12 +150,12 @@ where
         clients,
     };
     let mut files = StartFiles::new(&run);
-    let rest = match open_all(&run, &mut files, &shared) {
+    let left = match open_all(&run, &mut files, &shared) {
         Ok((sinks, accept)) => serve_opened(&run, &mut files, shared, posts, &sinks, &accept),
         Err(why) => Err(why),
     };
-    match rest {
-        Ok(rest) => finish(&run, rest),
+    match left {
+        Ok((domain, recorded)) => finish(&run, domain, recorded),
         Err(why) => {
             files.remove(&run);
             Err(why.fault())
@@ -176,15 +176,6 @@ fn new_signals<R: Host>(rt: &R) -> Signals {
     let processors = available_parallelism(rt).map_or(0, |count| count.get() as u64);
     let started = rt.since_1970().map_or(0, |time| time.as_secs());
     Signals::new(processors, started)
-}
-
-/// The level of the notices that are counted: warnings and graver ones at least, since those of
-/// flushes that failed are among them.
-fn counted_level(plan: &Plan<'_>) -> LevelFilter {
-    match plan.log_level {
-        LevelFilter::Error => LevelFilter::Warn,
-        level => level,
-    }
 }
 
 /// What keeps a daemon from its end once it has a domain: a plain value, which no function has to
@@ -300,13 +291,6 @@ type DaemonAccept<'a, R> = SocketAccept<'a, R, Notices<'a, R>>;
 
 type DaemonControl<'a, R> = Control<'a, R, Notices<'a, R>>;
 
-/// What a daemon leaves: its domain, and whether its record is written.
-#[derive(Drop)]
-struct Rest {
-    domain: Domain,
-    recorded: Result<(), StartFault>,
-}
-
 /// Opens what the plan names: its sinks, the record's file, and its sockets, on which nobody is
 /// accepted yet; and begins the record.
 fn open_all<'a, 'p, R: Host, B: Names>(
@@ -320,24 +304,22 @@ fn open_all<'a, 'p, R: Host, B: Names>(
     files.record = open_record(run)?;
     files.control = listen_for_control(run)?;
     let accept = listen_for_sessions(run)?;
-    match files.write_record(run, shared) {
-        Ok(()) => Ok((sinks, accept)),
-        Err(why) => {
-            accept.close();
-            Err(why)
-        }
+    if let Err(why) = files.write_record(run, shared) {
+        accept.close();
+        return Err(why);
     }
+    Ok((sinks, accept))
 }
 
-/// Serves the plan's sessions, each post with the sink of its worker, and ends the service.
-fn serve_opened<'a, 'p, R, B, D>(
-    run: &Running<'a, 'p, R>,
+/// Serves the plan's sessions, and gives the domain that is left, and whether its record is written.
+fn serve_opened<'a, 'p, 's, R, B, D>(
+    run: &'s Running<'a, 'p, R>,
     files: &mut StartFiles<'p>,
     shared: Shared<&'a R, B>,
     posts: Vec<Post<B>>,
-    sinks: &[SharedSink<D>],
+    sinks: &'s [SharedSink<D>],
     accept: &DaemonAccept<'a, R>,
-) -> Result<Rest, StartFault>
+) -> Result<(Domain, Result<(), StartFault>), StartFault>
 where
     R: Host,
     B: Names + Send + Sync,
@@ -346,51 +328,51 @@ where
     requires parts { B.ledgers.good.parts ≡ SEAT_PARTS * shared.seats }
     requires sinks { 2 ≤ length sinks.now }
 {
-    match sinks_in_turn(run.rt, run.rt.alloc(), sinks, posts.len()) {
-        Some(lent) => match serve_and_end(run, files, shared, posts, lent, accept) {
-            Ok(ended) => Ok(ended.rest),
-            Err(why) => Err(why),
-        },
-        None => {
-            accept.close();
-            Err(StartFault::NoMemory)
-        }
+    match serve_and_end(run, files, shared, posts, sinks, accept) {
+        Ok(ended) => Ok((ended.domain, ended.recorded)),
+        Err(why) => Err(why),
     }
 }
 
-/// What a service leaves at its end, and the sinks that it was given: those of the posts, the
-/// flusher's, and that of the last round, where there was one.
+/// What a service leaves: its domain, whether its record is written, and the sinks that served:
+/// those of the posts, the flusher's, and that of the last round, where there was one.
 #[derive(Drop)]
 struct Ended<D, E> {
-    rest: Rest,
+    domain: Domain,
+    recorded: Result<(), StartFault>,
     sinks: Vec<D>,
     sink: D,
     last: Option<E>,
 }
 
-/// Serves the plan's sessions with these sinks, one for each post and the flusher's, closes the
-/// sockets, and ends the service, once all seats and tallies have come back. So all flushes that
-/// the domain counts as ended well, from its beginning to its end, are within the good calls that
-/// the sinks were given.
-fn serve_and_end<'a, 'p, R, B, D>(
-    run: &Running<'a, 'p, R>,
+/// Serves the plan's sessions, each post with a sink of its worker's, made here, and the flusher
+/// with one of the last; closes the sockets, and ends the service, once all seats and tallies have
+/// come back. So all flushes that the domain counts as ended well, from its beginning to its end,
+/// are within the good calls that these sinks were given.
+fn serve_and_end<'a, 'p, 's, R, B, D>(
+    run: &'s Running<'a, 'p, R>,
     files: &mut StartFiles<'p>,
     shared: Shared<&'a R, B>,
     posts: Vec<Post<B>>,
-    sinks: Vec<D>,
+    sinks: &'s [SharedSink<D>],
     accept: &DaemonAccept<'a, R>,
-) -> Result<Ended<D, OpenedSink<'a, R>>, StartFault>
+) -> Result<Ended<LockedSink<'s, R, D>, OpenedSink<'a, R>>, StartFault>
 where
     R: Host,
     B: Names + Send + Sync,
     D: Sink + Send + Drop,
     requires posts { AreNewSeats shared (map (λ p. p.seat) posts.items) }
     requires parts { B.ledgers.good.parts ≡ SEAT_PARTS * shared.seats }
-    requires sinks { vec_len sinks ≡ vec_len posts + 1 }
-    requires unused { AllByRecursion (λ s. D.calls s ≡ []) sinks.items }
-    ensures { IfOk result (λ e. IsAnswered e.rest.domain (map D.calls e.sinks.items)
-        (D.calls e.sink) (last_calls ⟦<OpenedSink<'a, R> as Sink>⟧.calls e.last)) }
+    requires sinks { 2 ≤ length sinks.now }
+    ensures { IfOk result (λ e. IsAnswered e.domain
+        (map ⟦<LockedSink<'s, R, D> as Sink>⟧.calls e.sinks.items)
+        (⟦<LockedSink<'s, R, D> as Sink>⟧.calls e.sink)
+        (last_calls ⟦<OpenedSink<'a, R> as Sink>⟧.calls e.last)) }
 {
+    let Some(sinks) = sinks_in_turn(run.rt, run.rt.alloc(), sinks, posts.len()) else {
+        accept.close();
+        return Err(StartFault::NoMemory);
+    };
     // so the end needs no memory for the seats
     let Ok(room) = Vec::with_capacity(run.rt.alloc(), posts.len()) else {
         accept.close();
@@ -433,7 +415,7 @@ where
     requires room { vec_len served.posts ≤ vec_capacity room }
     ensures ended { EndsCounted (map (λ p. p.seat) served.posts.items)
         served.tally (last_calls ⟦<OpenedSink<'a, R> as Sink>⟧.calls result.last)
-        result.rest.domain }
+        result.domain }
     ensures sinks { (result.sinks ≡ served.sinks) × (result.sink ≡ served.sink) }
 {
     info!(run.notices; target: "", "all sessions have ended");
@@ -448,12 +430,9 @@ where
     run.control.look_at_record(shared.recording());
     let recorded = files.write_record(run, &shared);
     run.notices.flush();
-    let rest = Rest {
+    Ended {
         domain: shared.into_counted(seats_of(posts, room), tally),
         recorded,
-    };
-    Ended {
-        rest,
         sinks,
         sink,
         last,
@@ -609,10 +588,13 @@ fn open_record<'p, R: Host>(
 
 /// Prints the domain, where the record was written, and says what is left of it at clients and in
 /// rings, where the daemon was stopped and anything is.
-fn finish<R: Host>(run: &Running<'_, '_, R>, rest: Rest) -> Result<(), Fault<'static>>
+fn finish<R: Host>(
+    run: &Running<'_, '_, R>,
+    domain: Domain,
+    recorded: Result<(), StartFault>,
+) -> Result<(), Fault<'static>>
     ensures { IfErr result (IsFaultOfServing run.now.plan.now) }
 {
-    let Rest { domain, recorded } = rest;
     if let Err(why) = recorded {
         return Err(why.fault());
     }
