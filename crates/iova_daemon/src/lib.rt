@@ -81,10 +81,7 @@ impl Serving {
 
     /// Whether all sessions have had their accept, once so many have.
     fn are_all(self, accepted: u64) -> bool {
-        match self.sessions {
-            Some(sessions) => accepted >= sessions,
-            None => false,
-        }
+        self.sessions.is_some_and(|sessions| accepted >= sessions)
     }
 }
 
@@ -145,11 +142,9 @@ where
     let accept = WithControl::new(accept, &NoControlTask);
     let served = serve_sessions::<R, Q, N, B, L, WithControl<'_, A, NoControlTask>, D, P>(
         &service, &shared, posts, sinks, &accept, pause,
-    );
-    match served {
-        Ok(ServedBy { posts, .. }) => Ok(Served { shared, posts }),
-        Err(refusal) => Err(refusal),
-    }
+    )?;
+    let ServedBy { posts, .. } = served;
+    Ok(Served { shared, posts })
 }
 
 /// Serves sessions on the domain, and flushes beside them on the calling thread. Each post is a

@@ -35,11 +35,8 @@ impl AnswerRoom {
     /// Room for the answers to one run, and for their text where each is one line. None for want of
     /// memory.
     pub(crate) fn new(alloc: Global) -> Option<AnswerRoom> {
-        let Ok(answers) = Vec::with_capacity(alloc, MAX_RUN) else {
-            return None;
-        };
         Some(AnswerRoom {
-            answers,
+            answers: Vec::with_capacity(alloc, MAX_RUN).ok()?,
             text: ArrayVec::new(),
             lists: Vec::new(alloc),
         })

@@ -64,9 +64,7 @@ pub fn posts_at<B: Names>(alloc: Global, seats: Vec<Seat<B>>) -> Option<Vec<Post
     ensures waiting { IfSome result
         (λ v. map (λ p. p.waiting.items) v.items ≡ map (λ s. []) seats.items) }
 {
-    let Ok(mut posts) = Vec::with_capacity(alloc, seats.len()) else {
-        return None;
-    };
+    let mut posts = Vec::with_capacity(alloc, seats.len()).ok()?;
     for seat in seats {
         let Ok(()) = posts.push(Post::new(alloc, seat)) else {
             unreachable!();

@@ -103,8 +103,11 @@ impl<'a, B: Names, K: Keep<B>, D: Sink, O: SessionStart> Desk for SessionDesk<'a
         requests: &[Request],
         answers: &mut Vec<Answer>,
     ) -> Result<usize, Refusal> {
-        ask_with(
-            &mut self.access,
+        let access = &mut self.access;
+        ask_front(
+            access.keeper,
+            access.seat,
+            access.sink,
             &mut self.session,
             &mut self.last,
             requests,
@@ -113,51 +116,10 @@ impl<'a, B: Names, K: Keep<B>, D: Sink, O: SessionStart> Desk for SessionDesk<'a
     }
 }
 
-/// `ask_front` over what the session has access to.
-pub(crate) fn ask_with<B: Names, K: Keep<B>, D: Sink>(
-    access: &mut DomainAccess<'_, B, K, D>,
-    session: &mut Session,
-    last: &mut LastBatch,
-    requests: &[Request],
-    answers: &mut Vec<Answer>,
-) -> Result<usize, Refusal>
-    requires some { 1 ≤ length requests.now }
-    requires most { length requests.now ≤ MAX_RUN }
-    requires number { session.old.number ≡ (K.identity access.old.keeper.now).number }
-    ensures names { (access.new.keeper.ghost_name ≡ access.old.keeper.ghost_name)
-        × (access.new.seat.ghost_name ≡ access.old.seat.ghost_name)
-        × (access.new.sink.ghost_name ≡ access.old.sink.ghost_name) }
-    ensures same { K.identity access.new.keeper.now ≡ K.identity access.old.keeper.now }
-    ensures after { (session.old.client ≡ client_after None session.old.pairs)
-        × (session.old.listed ≡ listed_after 0 session.old.pairs) }
-    ensures leads { WhereKnown (K.domain access.old.keeper.now) (K.domain access.new.keeper.now)
-        (GoesOn (K.identity access.old.keeper.now).strict session.old session.new
-        access.old.seat.now access.new.seat.now
-        (D.calls access.old.sink.now) (D.calls access.new.sink.now)) }
-    ensures count { IfOk result (λ n. (1 ≤ n) × (n ≤ length requests.now)) }
-    ensures ok { IfOk result
-        (λ n. AnswersRun requests.now n session.old session.new answers.old.items answers.new.items
-        access.old.seat.now.held access.new.seat.now.held) }
-    ensures err { IfErr result (λ e. (e ≡ Refusal.NoMemory) × (session.new ≡ session.old)
-        × (answers.new.items ≡ answers.old.items) × (access.new.seat.now ≡ access.old.seat.now)) }
-    ensures place { KeepsPlace access.old.seat.now access.new.seat.now (D.calls access.old.sink.now)
-        (D.calls access.new.sink.now) }
-{
-    ask_front(
-        access.keeper,
-        access.seat,
-        access.sink,
-        session,
-        last,
-        requests,
-        answers,
-    )
-}
-
 /// Asks a front of the requests, at least one of them: with a client those that can be asked in one
 /// hold, else the first alone, as a free that the last hold stopped at. Refused by `NoMemory` where
 /// there is no room for the answers; then nothing was asked.
-pub(crate) fn ask_front<B: Names, K: Keep<B>, D: Sink>(
+fn ask_front<B: Names, K: Keep<B>, D: Sink>(
     keeper: &mut K,
     seat: &mut Seat<B>,
     sink: &mut D,
@@ -202,14 +164,9 @@ pub(crate) fn ask_front<B: Names, K: Keep<B>, D: Sink>(
             ask_alone(alloc, keeper, seat, sink, id, session.listed(), requests[0])
         }
     };
-    last.is_strict = last.is_strict || is_freed(&answer);
+    // freed at once, as in a strict domain: then the next free is asked alone too, in no hold
+    last.is_strict = last.is_strict || matches!(answer, Answer::Freed(_));
     last.stopped = last.is_strict;
     tell(session, requests[0], answer, answers);
     Ok(1)
-}
-
-/// Whether a range was freed at once, as in a strict domain: then the next free is asked alone too,
-/// with no hold that would stop at it.
-fn is_freed(answer: &Answer) -> bool {
-    matches!(answer, Answer::Freed(_))
 }

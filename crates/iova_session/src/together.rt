@@ -91,7 +91,8 @@ pub(crate) fn ask_together<B: Names, K: Keep<B>>(
     last.told.clear();
     let count = keeper.batch(seat, id, &asks[..most], &mut last.told)?;
     tell_all(session, requests, last.told.as_slice(), answers);
-    last.stopped = stops(count, requests.len());
+    // it stopped at the next one, which isn't asked yet
+    last.stopped = count > 0 && count < requests.len();
     Ok(count)
 }
 
@@ -140,7 +141,9 @@ pub(crate) fn ask_at_room<B: Names, K: Keep<B>, D: Sink>(
         }
         return Ok(count);
     }
-    if turns == 0 || !waits_for_room(last, requests) || !sink.wait_for_turn() {
+    // the ring may have room where another thread has flushed
+    let waits = !last.is_strict && is_free_first(requests);
+    if turns == 0 || !waits || !sink.wait_for_turn() {
         return Ok(0);
     }
     last.stopped = false;
@@ -157,11 +160,6 @@ pub(crate) fn ask_at_room<B: Names, K: Keep<B>, D: Sink>(
     )
 }
 
-/// Whether the first request is a free that may find room where another thread has flushed.
-fn waits_for_room(last: &LastBatch, requests: &[Request]) -> bool {
-    !last.is_strict && matches!(requests.first(), Some(Request::Free { lo: _ }))
-}
-
 /// Writes the asks at the front of the requests, and gives how many they are: none where the first
 /// is a free that a hold would stop at.
 fn asks_from(requests: &[Request], stopped: bool, asks: &mut [Ask]) -> usize
@@ -170,23 +168,17 @@ fn asks_from(requests: &[Request], stopped: bool, asks: &mut [Ask]) -> usize
     ensures none { result ≡ 0 → IsFirstAlone requests.now }
     ensures most { result ≤ length requests.now }
 {
-    if is_stopped_at(stopped, requests) {
-        0
-    } else {
-        asks_of(requests, asks)
+    if stopped && is_free_first(requests) {
+        return 0;
     }
+    asks_of(requests, asks)
 }
 
-/// Whether the first request is a free that a hold would stop at.
-fn is_stopped_at(stopped: bool, requests: &[Request]) -> bool
+/// Whether the first request is a free.
+fn is_free_first(requests: &[Request]) -> bool
     ensures { IsTrue result → IsFirstAlone requests.now }
 {
-    stopped && matches!(requests.first(), Some(Request::Free { lo: _ }))
-}
-
-/// Whether a hold that did so many of the requests stopped at the next one, which isn't asked yet.
-fn stops(done: usize, requests: usize) -> bool {
-    done > 0 && done < requests
+    matches!(requests.first(), Some(Request::Free { lo: _ }))
 }
 
 /// Writes the asks at the front of the requests, and gives how many they are.
