@@ -4,7 +4,7 @@ use Rattle.std.specs.Prelude.{◌≢◌, ◌⊎◌, ◌==◌, ◌||◌, if◌the
 use Rattle.std.specs.Borrow.{Bor}
 use Rattle.std.specs.List.{list_any}
 use Rattle.std.proofs.lemmas.Bool.{and_parts, both_ways, cases_eq, cond-false, cond-true, eq-eqb, leb-true, lt-ltb, ltb-true, ne_eqb}
-use Rattle.iova_range.specs.Frames.{Frames, covers}
+use Rattle.iova_range.specs.Frames.{Frames}
 use Rattle.iova_check.specs.declared.checker.Checker.{Checker}
 use Rattle.iova_check.specs.declared.event.Event.{Event}
 use Rattle.iova_check.specs.declared.event.Event.TheVariants as event
@@ -15,17 +15,16 @@ use Rattle.iova_check.specs.declared.finding.Kind.TheVariants as kind
 use Rattle.iova_check.specs.declared.finding.Run.{Run}
 use Rattle.iova_check.specs.declared.source.Source.{Source}
 use Rattle.iova_check.specs.declared.stage.OpenFlush.{OpenFlush}
-use Rattle.iova_check.specs.declared.stage.Stage.{Stage}
 use Rattle.iova_check.specs.declared.stage.Stage.TheVariants as stage
 use Rattle.iova_check.specs.AllowedBounds.{AllowedBounds}
 use Rattle.iova_check.specs.Counting.{how_many}
-use Rattle.iova_check.specs.Findings.{AreFindings, IsFound, IsMapTold, TellsBreaks, is_reuse, of_run, told_outside}
+use Rattle.iova_check.specs.Findings.{AreFindings, IsFound, TellsBreaks, is_reuse, of_run, told_outside}
 use Rattle.iova_check.specs.History.{flight_of, next_line, stage_of}
 use Rattle.iova_check.specs.Output.{IsTold}
 use Rattle.iova_check.specs.Promise.{IsKeptAt, IsLine, PromiseIsTold, is_line, lines_before, maps}
 use Rattle.iova_check.specs.Runs.{AreRead, Checks}
 use Rattle.iova_command.specs.declared.check_plan.CheckPlan.{CheckPlan}
-use Rattle.iova_tools.specs.Sound.{ChecksSound, IsAskedBy, IsSound, ReadsSound}
+use Rattle.iova_tools.specs.Sound.{ChecksSound, IsAskedBy, ReadsSound}
 use Rattle.iova_tools.specs.Verdicts.{EndsCheck, ends_with, fault_of_verdict, has_gap, verdict_of}
 use Rattle.iova_tools.specs.declared.verdict.Verdict.TheVariants as verdict
 use Rattle.iova_tools.specs.declared.fault.Fault.{Fault}

@@ -1,7 +1,6 @@
 -- The result of serving, from the beginning of a domain to its end.
-use Rattle.std.proofs.Common.{ℕ, zero, suc, ◌≡◌, ◌∙◌, ◌+◌, ◌*◌, ◌%◌, ◌≤◌, List, [], ◌∷◌, ◌++◌, length, refl, sym, ap, arith, subst}
+use Rattle.std.proofs.Common.{ℕ, zero, suc, ◌≡◌, ◌+◌, ◌*◌, ◌%◌, ◌≤◌, List, [], ◌∷◌, ◌++◌, length, refl, ap, arith}
 use Rattle.std.specs.Prelude.{IfSome, Option, slice_get, sum_by}
-use Rattle.std.proofs.Math.Nat.{mul-suc}
 use Rattle.std.proofs.lemmas.List.Sums.{sum_by-append}
 use Rattle.iova_range.specs.declared.limits.TheConstants.{SEAT_PARTS}
 use Rattle.iova_sink.specs.Calls.{Call, good_calls}
@@ -10,9 +9,9 @@ use Rattle.iova_sink.specs.Devices.{RecordSinkState}
 use Rattle.iova_command.specs.declared.sink_path.SinkPath.{SinkPath}
 use Rattle.iova_files.specs.declared.sinks.EitherSink.{EitherSink}
 use Rattle.iova_files.specs.Sinks.{IsOpened}
-use Rattle.iova_keep.specs.Views.{SeatState, TallyState, KeepsPlace, seat_with, seats_in_turn}
+use Rattle.iova_keep.specs.Views.{SeatState, KeepsPlace, seat_with, seats_in_turn}
 use Rattle.iova_lock.specs.Books.{tally_parts, tally_good}
-use Rattle.iovad.specs.Ends.{EndsAll, workers_of}
+use Rattle.iovad.specs.Ends.{EndsAll}
 
 -- the parts of new seats' tallies are those of the whole ledger
 pub new_parts : (workers n : ℕ) → tally_parts (seats_in_turn SEAT_PARTS workers n) ≡ SEAT_PARTS * n

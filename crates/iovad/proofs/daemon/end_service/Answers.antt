@@ -1,5 +1,4 @@
-use Rattle.std.proofs.Common.{◌≡◌, ◌+◌, ◌∙◌, List, map, sym, ap, take, ◌++◌, arith}
-use Rattle.iova_keep.specs.Views.{SeatState}
+use Rattle.std.proofs.Common.{◌+◌, ◌∙◌, map, sym, ap, arith}
 use Rattle.iova_lock.specs.Books.{tally_parts, tally_good}
 use Rattle.iovad.specs.Ends.{workers_of}
 use Rattle.iovad.proofs.Gathering.{all_there, workers_at, given_back}
