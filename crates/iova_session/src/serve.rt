@@ -55,6 +55,8 @@ pub fn serve_within<L: Link, D: Desk>(
     };
     let mut lines = Lines::new();
     let mut left = limits.requests;
+    // a run's requests lie where the last one's did, since room for them is filled where it is made
+    let mut run: ArrayVec<Request, MAX_RUN> = ArrayVec::new();
     let mut buf = [0; PIECE];
     'reading: for _ in 0..limits.reads {
         let Ok(n) = link.read(&mut buf) else {
@@ -64,7 +66,10 @@ pub fn serve_within<L: Link, D: Desk>(
             return End::Closed;
         }
         let piece = &buf[..n];
-        if let Err(end) = take_piece(link, desk, &mut lines, piece, &mut left, &mut room) {
+        let taken = take_piece(
+            link, desk, &mut lines, piece, &mut left, &mut run, &mut room,
+        );
+        if let Err(end) = taken {
             return end;
         }
     }
@@ -79,6 +84,7 @@ pub(crate) fn take_piece<L: Link, D: Desk>(
     lines: &mut Lines,
     piece: &[u8],
     left: &mut u64,
+    run: &mut ArrayVec<Request, MAX_RUN>,
     room: &mut AnswerRoom,
 ) -> Result<(), End>
     requires { IsSome lines.old }
@@ -95,8 +101,8 @@ pub(crate) fn take_piece<L: Link, D: Desk>(
 {
     let mut at = 0;
     'rounds: loop {
-        let mut run: ArrayVec<Request, MAX_RUN> = ArrayVec::new();
-        let (used, stop) = take_requests(lines, &piece[at..], *left, &mut run);
+        run.clear();
+        let (used, stop) = take_requests(lines, &piece[at..], *left, run);
         at += used;
         *left -= run.len() as u64;
         ask_all(link, desk, run.as_slice(), room)?;

@@ -54,13 +54,6 @@ impl Session {
         }
     }
 
-    /// The number of its domain.
-    pub(crate) fn number(&self) -> u64
-        ensures { result ≡ self.now.number }
-    {
-        self.number
-    }
-
     /// The client that a hello opened.
     pub(crate) fn client(&self) -> Option<ClientId>
         ensures value { result ≡ self.now.client }

@@ -29,6 +29,8 @@ pub(crate) struct LastBatch {
     pub(crate) stopped: bool,
     /// A range was freed at once: each free has a flush of its own.
     pub(crate) is_strict: bool,
+    /// Room for what is asked in a hold, which would be filled at each where it was made there.
+    pub(crate) asks: [Ask; MAX_RUN],
     /// The last hold's answers, and room for those of the next.
     pub(crate) told: Vec<Told>,
 }
@@ -39,6 +41,7 @@ impl LastBatch {
         LastBatch {
             stopped: false,
             is_strict: false,
+            asks: [Ask::Stat; MAX_RUN],
             told: Vec::new(alloc),
         }
     }
@@ -82,14 +85,13 @@ pub(crate) fn ask_together<B: Names, K: Keep<B>>(
 {
     // for the proof: a free whose ring is full changes nothing
     refusals_keep_the_state();
-    let mut asks = [Ask::Stat; MAX_RUN];
-    let most = asks_from(requests, last.stopped, &mut asks);
+    let most = asks_from(requests, last.stopped, &mut last.asks);
     last.stopped = false;
     if most == 0 {
         return Ok(0);
     }
     last.told.clear();
-    let count = keeper.batch(seat, id, &asks[..most], &mut last.told)?;
+    let count = keeper.batch(seat, id, &last.asks[..most], &mut last.told)?;
     tell_all(session, requests, last.told.as_slice(), answers);
     // it stopped at the next one, which isn't asked yet
     last.stopped = count > 0 && count < requests.len();

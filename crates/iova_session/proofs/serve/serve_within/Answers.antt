@@ -83,11 +83,11 @@ returns-in-Err-clause-session g c =
     let got = c.in-Err.ensures.taken in
     let start : got.0 ≡ inv.next = let e = sym got.3 ∙ inv.now in cc in
     let sent = subst (λ (x : Option (List ℕ)). Appends (g.L.Link.sent c.args.link.now) x inv.written) (sym c.read.ensures.sent) inv.sent in
-    let consumed = subst (λ (x : Option (List ℕ)). Consumes (g.L.Link.left c.args.link.now) x (inv.taken ++ piece)) (sym c.take_piece.ensures.left)
+    let consumed = subst (λ (x : Option (List ℕ)). Consumes (g.L.Link.left c.args.link.now) x (inv.taken ++ piece)) (sym c.take_piece-taken.ensures.left)
     (Consumes-trans (g.L.Link.left c.args.link.now) (g.L.Link.left c.reading.link) (g.L.Link.left c.read.new.self) inv.taken piece inv.consumed c.in-Ok.ensures.bytes.0) in
     let pairs = got.4 ∙ ap (λ x. x ++ got.1) inv.pairs ∙ append_assoc (g.D.Desk.pairs c.args.desk.now) inv.ps got.1 in
-    let wrote = Appends-trans (g.L.Link.sent c.args.link.now) (g.L.Link.sent c.read.new.self) (g.L.Link.sent c.take_piece.new.link) inv.written got.2 sent got.5 in
-    let T : TakesPiece c.reading.left (inv.next ++ piece) got.1 got.2 c.take_piece.new.left c.take_piece.new.lines (Err c.in-Err.end) = rw start at got.6 in (
+    let wrote = Appends-trans (g.L.Link.sent c.args.link.now) (g.L.Link.sent c.read.new.self) (g.L.Link.sent c.take_piece-taken.new.link) inv.written got.2 sent got.5 in
+    let T : TakesPiece c.reading.left (inv.next ++ piece) got.1 got.2 c.take_piece-taken.new.left c.take_piece-taken.new.lines (Err c.in-Err.end) = rw start at got.6 in (
       inv.ps ++ got.1,
       pairs,
       record {
@@ -96,7 +96,7 @@ returns-in-Err-clause-session g c =
         count = c.reading.counter + 1;
         consumed = consumed;
         appended = wrote;
-        counted = omega (arith, c.take_piece.ensures.reads, c.read.ensures.reads, inv.reads);
+        counted = omega (arith, c.take_piece-taken.ensures.reads, c.read.ensures.reads, inv.reads);
         served = Serves-then c.args.limits.requests c.args.limits.reads c.reading.left (c.reading.counter + 1) inv.taken piece inv.next inv.written got.2 inv.ps got.1 c.in-Err.end
             inv.count (omega arith) inv.goes T;
       },
@@ -106,14 +106,14 @@ pub reading-preserved : goal.reading-preserved
 reading-preserved g c =
     let inv = c.reading.invariant in
     let piece = take c.in-Ok.n c.read.new.buf in
-    let got = c.in_default-take_piece.ensures.taken in
+    let got = c.in_default-taken.ensures.taken in
     let start : got.0 ≡ inv.next = let e = sym got.3 ∙ inv.now in cc in
     let sent = subst (λ (x : Option (List ℕ)). Appends (g.L.Link.sent c.args.link.now) x inv.written) (sym c.read.ensures.sent) inv.sent in
-    let consumed = subst (λ (x : Option (List ℕ)). Consumes (g.L.Link.left c.args.link.now) x (inv.taken ++ piece)) (sym c.take_piece.ensures.left)
+    let consumed = subst (λ (x : Option (List ℕ)). Consumes (g.L.Link.left c.args.link.now) x (inv.taken ++ piece)) (sym c.take_piece-taken.ensures.left)
     (Consumes-trans (g.L.Link.left c.args.link.now) (g.L.Link.left c.reading.link) (g.L.Link.left c.read.new.self) inv.taken piece inv.consumed c.in-Ok.ensures.bytes.0) in
     let pairs = got.4 ∙ ap (λ x. x ++ got.1) inv.pairs ∙ append_assoc (g.D.Desk.pairs c.args.desk.now) inv.ps got.1 in
-    let wrote = Appends-trans (g.L.Link.sent c.args.link.now) (g.L.Link.sent c.read.new.self) (g.L.Link.sent c.take_piece.new.link) inv.written got.2 sent got.5 in
-    let T : TakesPiece c.reading.left (inv.next ++ piece) got.1 got.2 c.take_piece.new.left c.take_piece.new.lines (Ok c.in_default-take_piece.field-0) = rw start at got.6 in
+    let wrote = Appends-trans (g.L.Link.sent c.args.link.now) (g.L.Link.sent c.read.new.self) (g.L.Link.sent c.take_piece-taken.new.link) inv.written got.2 sent got.5 in
+    let T : TakesPiece c.reading.left (inv.next ++ piece) got.1 got.2 c.take_piece-taken.new.left c.take_piece-taken.new.lines (Ok c.in_default-taken.field-0) = rw start at got.6 in
     record {
       taken = inv.taken ++ piece;
       ps = inv.ps ++ got.1;
@@ -126,9 +126,9 @@ reading-preserved g c =
       unended = T.2;
       goes = AllAnswered-then inv.taken piece inv.next T.0 inv.written got.2 inv.ps got.1 inv.goes T.1;
       count = omega (arith, length-append inv.ps got.1, T.4, inv.count);
-      reads = omega (arith, c.take_piece.ensures.reads, c.read.ensures.reads, inv.reads);
-      failures = c.in_default-take_piece.ensures.failures ∙ c.in-Ok.ensures.failures ∙ inv.failures;
-      ends = c.take_piece.ensures.ends ∙ c.in-Ok.ensures.ends.0 (omega arith) ∙ inv.ends;
+      reads = omega (arith, c.take_piece-taken.ensures.reads, c.read.ensures.reads, inv.reads);
+      failures = c.in_default-taken.ensures.failures ∙ c.in-Ok.ensures.failures ∙ inv.failures;
+      ends = c.take_piece-taken.ensures.ends ∙ c.in-Ok.ensures.ends.0 (omega arith) ∙ inv.ends;
     }
 
 pub returns-clause-session : goal.returns-clause-session
