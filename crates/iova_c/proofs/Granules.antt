@@ -1,10 +1,10 @@
 -- A power of two has as many zeros at its end as it is twos; quotients by one, and their multiples.
-use Rattle.std.proofs.Common.{◌≡◌, ◌≢◌, ◌≤◌, ◌<◌, ◌+◌, ◌-◌, ◌*◌, ◌/◌, ◌%◌, ◌^◌, ◌↔◌, ◌⊎◌, ℕ, suc, inl, inr, w64, refl, sym, ap, ◌∙◌, arith}
+use Rattle.std.proofs.Common.{◌≡◌, ◌≢◌, ◌≤◌, ◌<◌, ◌-◌, ◌*◌, ◌%◌, ◌^◌, ◌⊎◌, ℕ, inl, inr, w64, sym, ap, ◌∙◌, arith}
 use Rattle.std.specs.Int.{trailing_zeros}
 use Rattle.std.proofs.lemmas.Bool.{cases_eq}
-use Rattle.std.proofs.lemmas.Nat.{pow_pos, pow_below, one_shl, mul-le}
+use Rattle.std.proofs.lemmas.Nat.{pow_pos, pow_below, one_shl}
 use Rattle.std.proofs.lemmas.Nat.Bits.{bit_at-trailing_zeros, bit_at-pow_other}
-use Rattle.std.proofs.Math.Nat.{pow-le-pow_right, le-div_iff_mul-le, div-mul-le_self}
+use Rattle.std.proofs.Math.Nat.{pow-le-pow_right}
 use Rattle.iova_c.specs.Granules.{IsGranule, IsShifted}
 
 pub zeros_of : (order : ℕ) → order ≤ 21 → trailing_zeros w64 (2 ^ order) ≡ order

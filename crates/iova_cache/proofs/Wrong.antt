@@ -1,5 +1,5 @@
 -- What wrong caches do is to all others what any client may do.
-use Rattle.std.proofs.Common.{◌≡◌, ◌≢◌, ℕ, List, [], ◌∷◌, ◌++◌, Some, sym, ap, ◌∙◌, subst}
+use Rattle.std.proofs.Common.{◌≡◌, ℕ, List, [], ◌∷◌, Some, sym, ap, ◌∙◌, subst}
 use Rattle.iova_model.specs.declared.step.Step.{Step}
 use Rattle.iova_model.specs.Effects.{client_named}
 use Rattle.iova_cache.specs.Caches.{CacheState}

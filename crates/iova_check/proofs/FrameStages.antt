@@ -1,7 +1,7 @@
 -- The stage of a frame, in lines: by cases on the newest line.
 use Rattle.std.proofs.Common.{ℕ, ◌≡◌, ◌∙◌, ◌<◌, inl, inr, true, false, List, [], ◌∷◌, Option, Some, None, refl, sym, ap, subst, arith}
 use Rattle.std.specs.Prelude.{◌==◌, nat_lt}
-use Rattle.std.proofs.lemmas.Bool.{cond-true, cond-false, cases_Bool, cases_eq, cases_lt, cases_order, both_ways, and_parts, and_from, ltb-true, lt-ltb}
+use Rattle.std.proofs.lemmas.Bool.{cond-true, cond-false, cases_Bool, cases_lt, cases_order, both_ways, and_parts, ltb-true, lt-ltb}
 use Rattle.iova_range.specs.Frames.{Frames, covers}
 use Rattle.iova_check.specs.declared.event.Event.{Event}
 use Rattle.iova_check.specs.declared.event.Event.TheVariants as event
@@ -11,7 +11,7 @@ use Rattle.iova_check.specs.declared.stage.OpenFlush.{OpenFlush}
 use Rattle.iova_check.specs.declared.stage.Change.TheVariants as change
 use Rattle.iova_check.specs.History.{next_line, has, flight_of, stage_of, with_change, flushed_by}
 use Rattle.iova_check.specs.Promise.{is_line, IsLine, NoneAfter, maps, unmaps, begins, ends_well, is_of, flushes, IsLongFlush, IsShortFlush, IsFlush, TakesBack, MayBeGiven, IsMappedSince, IsStaleSince, IsStage, StagesAreTold}
-use Rattle.iova_check.proofs.Lines.{line_new, line_old, line_bound, line_cases, line_more, line_apart, after_more, after_less, after_newest, between_more, between_less, flush_bound, flush_more, flush_less, takes_more, takes_less}
+use Rattle.iova_check.proofs.Lines.{line_new, line_old, line_bound, line_cases, line_more, line_apart, after_more, after_less, after_newest, flush_bound, flush_more, flush_less, takes_more, takes_less}
 use Rattle.iova_check.proofs.Flights.{IsFlight, IsNoFlight, IsFlightOf, flight_is}
 
 -- no line maps and unmaps

@@ -11,9 +11,15 @@ use std::marker::Model;
 
 /// What the words say of a command's options, each of which is read by its name. A contract sees
 /// what was matched.
-#[derive(Drop)]
 pub struct Said<'a> {
     found: ArgMatches<'a>,
+}
+
+/// Drops its part. The proof stands here, once for all crates above.
+impl<'a> Drop for Said<'a> {
+    fn drop(self) {
+        let Said { found: _ } = self;
+    }
 }
 
 impl<'a> Model for Said<'a> {

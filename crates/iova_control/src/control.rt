@@ -28,7 +28,6 @@ use std::time::Duration;
 
 /// What is done beside the sessions of a daemon: its control socket, where it has one, and that a
 /// full record is reported.
-#[derive(Drop)]
 pub struct Control<'a, R, N> {
     rt: &'a R,
     notices: &'a N,
@@ -36,6 +35,20 @@ pub struct Control<'a, R, N> {
     facts: Facts,
     was_told: AtomicBool,
     socket: Mutex<Option<ControlSocket>>,
+}
+
+/// Drops its parts. The proof stands here, once for all crates above.
+impl<'a, R, N> Drop for Control<'a, R, N> {
+    fn drop(self) {
+        let Control {
+            rt: _,
+            notices: _,
+            signals: _,
+            facts: _,
+            was_told: _,
+            socket: _,
+        } = self;
+    }
 }
 
 /// The most bytes of a version's text.

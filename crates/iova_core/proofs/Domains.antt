@@ -22,7 +22,6 @@ use Rattle.iova_core.specs.Tied.{IsTied}
 use Rattle.iova_core.specs.Domain.{Parts, state_of, IsDomain}
 use Rattle.iova_core.proofs.Ties.{tied_load, load_tied}
 use Rattle.iova_laws.proofs.Weights as weight
-use Rattle.iova_laws.proofs.Weights.{load, cached-emptied}
 use Rattle.iova_laws.proofs.Moves.{IsMoved, flushes_moved, opened_moved, marked_moved, forgotten_moved}
 use Rattle.iova_laws.proofs.Kept.{with_marked_valid, without_client_valid}
 

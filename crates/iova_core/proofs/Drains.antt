@@ -15,9 +15,8 @@ use Rattle.iova_model.specs.Valid.{IsRequestSizedEntry}
 use Rattle.iova_depot.specs.Cached.{Cached, IsCached, LosesOnly}
 use Rattle.iova_flush.specs.Rings.{frame_count}
 use Rattle.iova_tree.specs.Space.{Space, IsSpace}
-use Rattle.iova_core.specs.Reclaim.{HasAll, Frees, IsBacked, IsDrained, Exchanges, with_range, with_ranges}
+use Rattle.iova_core.specs.Reclaim.{HasAll, Frees, IsBacked, IsDrained, Exchanges, with_range}
 use Rattle.iova_laws.proofs.Weights as weight
-use Rattle.iova_laws.proofs.Weights.{cached-emptied}
 
 -- nothing has moved
 pub exchanges_none : (tree : Space) (c : Cached) → IsSpace tree → IsCached c → Exchanges tree tree c c [] []

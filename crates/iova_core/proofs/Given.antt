@@ -8,7 +8,7 @@ use Rattle.iova_model.specs.State.{State, held_ranges}
 use Rattle.iova_model.proofs.Placing.{AreSome}
 use Rattle.iova_core.proofs.Covered.{has}
 use Rattle.iova_laws.proofs.Weights as weight
-use Rattle.iova_laws.proofs.Weights.{load, held_are}
+use Rattle.iova_laws.proofs.Weights.{held_are}
 
 -- Ranges of a frame at least.
 

@@ -12,7 +12,7 @@ use Rattle.iova_model.specs.Clients.{begins_at, remove_at}
 use Rattle.iova_tree.specs.Space.{Space, IsSpace, RiseApart}
 use Rattle.iova_core.specs.Reclaim.{HasAll, Frees, IsBacked, Exchanges}
 use Rattle.iova_laws.proofs.Weights as weight
-use Rattle.iova_laws.proofs.Weights.{cached-put_all, cached-emptied, cached_weigh}
+use Rattle.iova_laws.proofs.Weights.{cached-put_all, cached_weigh}
 use Rattle.iova_laws.proofs.Kept.{magazine_takes}
 
 -- one where two ranges are the same

@@ -23,7 +23,7 @@ use Rattle.iova_core.proofs.Given.{some_alike}
 use Rattle.iova_core.proofs.Reclaims.{cached_sum}
 use Rattle.iova_core.proofs.Ties.{tied_load, load_tied}
 use Rattle.iova_laws.proofs.Weights as weight
-use Rattle.iova_laws.proofs.Weights.{cached_with, get_pops, Pops, load, held_are}
+use Rattle.iova_laws.proofs.Weights.{cached_with, get_pops, Pops}
 use Rattle.iova_laws.proofs.Kept.{has_shelf, order_is}
 
 -- The best place in a tree is the best in the state.

@@ -1,5 +1,5 @@
 -- A window that is reserved: what it is refused for, what it leaves, and how many frames windows have.
-use Rattle.std.proofs.Common.{ℕ, ◌≡◌, ◌+◌, ◌<◌, ◌≤◌, ◌^◌, ◌||◌, ◌⊎◌, inl, inr, Bool, true, false, cond, List, [], ◌∷◌, ◌++◌, length, Some, None, refl, sym, ap, ◌∙◌, subst, arith}
+use Rattle.std.proofs.Common.{ℕ, ◌≡◌, ◌+◌, ◌<◌, ◌≤◌, ◌^◌, ◌||◌, ◌⊎◌, inl, inr, Bool, true, false, cond, List, [], ◌∷◌, ◌++◌, Some, None, refl, sym, ap, ◌∙◌, subst, arith}
 use Rattle.std.specs.Prelude.{nat_lt, sum_by, Result, Ok, Err}
 use Rattle.std.specs.List.{list_any}
 use Rattle.std.proofs.lemmas.List.Sums.{sum_by-cons}
@@ -25,7 +25,7 @@ use Rattle.iova_core.proofs.Domains.{domain_step}
 use Rattle.iova_core.proofs.Outcomes.{Refuses, refuses_ok, refuses_err}
 use Rattle.iova_core.proofs.Ties.{tied_load, load_tied}
 use Rattle.iova_laws.proofs.Weights as weight
-use Rattle.iova_laws.proofs.Weights.{load, holder_ranges, owners_hold}
+use Rattle.iova_laws.proofs.Weights.{holder_ranges, owners_hold}
 
 -- What is taken.
 

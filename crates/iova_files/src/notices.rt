@@ -23,7 +23,6 @@ const FLUSH: &str = "flush";
 /// Standard error, and a count of the lines. Of a kind one line a second is printed at most; the
 /// next one says how many were not. Flushes that failed are counted, whether they are printed or
 /// not.
-#[derive(Drop)]
 pub struct CountedConsole<'a, R> {
     rt: &'a R,
     console: Console<&'a R>,
@@ -33,6 +32,20 @@ pub struct CountedConsole<'a, R> {
     /// The daemon's name, or nothing where it has none.
     name: &'a str,
     rates: [Rate; 4],
+}
+
+/// Drops its parts. The proof stands here, once for all crates above.
+impl<'a, R> Drop for CountedConsole<'a, R> {
+    fn drop(self) {
+        let CountedConsole {
+            rt: _,
+            console: _,
+            signals: _,
+            warns: _,
+            name: _,
+            rates: _,
+        } = self;
+    }
 }
 
 /// The daemon's name in front of a line, or nothing where it has none.

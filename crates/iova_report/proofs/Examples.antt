@@ -1,11 +1,11 @@
 -- Worked examples: the reports of two states that are written down.
-use Rattle.std.proofs.Common.{ℕ, ◌≡◌, ◌++◌, false, true, List, [], ◌∷◌, refl}
+use Rattle.std.proofs.Common.{ℕ, ◌≡◌, ◌++◌, false, List, [], ◌∷◌, refl}
 use Rattle.std.specs.Prelude.{codes}
 use Rattle.std.specs.Fmt.{digits}
 use Rattle.iova_range.specs.Frames.{Frames}
 use Rattle.iova_range.specs.Bounds.{first_profile}
 use Rattle.iova_model.specs.Clients.{Client}
-use Rattle.iova_model.specs.Caches.{Cache, no_magazines}
+use Rattle.iova_model.specs.Caches.{no_magazines}
 use Rattle.iova_model.specs.State.{State, new_domain}
 use Rattle.iova_report.specs.Report.{number_text, report_text}
 

@@ -55,7 +55,7 @@ pub fn serve_within<L: Link, D: Desk>(
     };
     let mut lines = Lines::new();
     let mut left = limits.requests;
-    // a run's requests lie where the last one's did, since room for them is filled where it is made
+    // room for a run's requests; it is made once, since making it fills it
     let mut run: ArrayVec<Request, MAX_RUN> = ArrayVec::new();
     let mut buf = [0; PIECE];
     'reading: for _ in 0..limits.reads {

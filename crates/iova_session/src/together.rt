@@ -29,7 +29,7 @@ pub(crate) struct LastBatch {
     pub(crate) stopped: bool,
     /// A range was freed at once: each free has a flush of its own.
     pub(crate) is_strict: bool,
-    /// Room for what is asked in a hold, which would be filled at each where it was made there.
+    /// Room for what is asked in a hold. It is made once, since making it fills it.
     pub(crate) asks: [Ask; MAX_RUN],
     /// The last hold's answers, and room for those of the next.
     pub(crate) told: Vec<Told>,

@@ -1,17 +1,19 @@
 -- The result of serving, from the beginning of a domain to its end.
-use Rattle.std.proofs.Common.{ℕ, zero, suc, ◌≡◌, ◌+◌, ◌*◌, ◌%◌, ◌≤◌, List, [], ◌∷◌, ◌++◌, length, refl, ap, arith}
+use Rattle.std.proofs.Common.{ℕ, zero, suc, ◌≡◌, ◌+◌, ◌*◌, ◌%◌, Bool, List, [], ◌∷◌, ◌++◌, length, Some, None, refl, sym, subst, arith}
 use Rattle.std.specs.Prelude.{IfSome, Option, slice_get, sum_by}
 use Rattle.std.proofs.lemmas.List.Sums.{sum_by-append}
 use Rattle.iova_range.specs.declared.limits.TheConstants.{SEAT_PARTS}
-use Rattle.iova_sink.specs.Calls.{Call, good_calls}
+use Rattle.iova_model.specs.State.{State}
+use Rattle.iova_sink.specs.Calls.{Call}
 use Rattle.iova_sink.specs.Channels.{Asking, Talk}
 use Rattle.iova_sink.specs.Devices.{RecordSinkState}
 use Rattle.iova_command.specs.declared.sink_path.SinkPath.{SinkPath}
 use Rattle.iova_files.specs.declared.sinks.EitherSink.{EitherSink}
 use Rattle.iova_files.specs.Sinks.{IsOpened}
-use Rattle.iova_keep.specs.Views.{SeatState, KeepsPlace, seat_with, seats_in_turn}
+use Rattle.iova_keep.specs.Views.{SeatState, WhereKnown, seat_with, seats_in_turn}
 use Rattle.iova_lock.specs.Books.{tally_parts, tally_good}
-use Rattle.iovad.specs.Ends.{EndsAll}
+use Rattle.iova_session.specs.Posts.{EndsPost}
+use Rattle.iovad.specs.Ends.{EndsEach}
 
 -- the parts of new seats' tallies are those of the whole ledger
 pub new_parts : (workers n : ℕ) → tally_parts (seats_in_turn SEAT_PARTS workers n) ≡ SEAT_PARTS * n
@@ -40,25 +42,22 @@ pub first_opened : {D : Type 0} (path : SinkPath) (reset : Option ℕ) (xs : Lis
 first_opened path reset [] x new old = new refl
 first_opened path reset (y ∷ ys) x new old = old
 
--- where there is no seat, or none that is left, nothing is ended
-pub ends_none : (calls : List Call) → EndsAll [] [] calls calls
-ends_none calls = record { workers = refl; parts = refl; good = omega arith }
+-- where there is no post, or none that is left, nothing is ended
+pub each_none : {P : Type 0} (seat : P → SeatState) (waiting : P → List ℕ) (flushes : Bool) (number : ℕ) (calls : List Call) (d : Option State)
+    (posts : List P) → length posts ≡ 0 → WhereKnown d d (EndsEach seat waiting flushes number posts posts calls calls)
+each_none seat waiting flushes number calls None posts none = tt
+each_none seat waiting flushes number calls (Some s) [] none = (refl, refl)
+each_none seat waiting flushes number calls (Some s) (p ∷ ps) none = absurd cc
 
--- one seat, and then the others
-pub ends_more : (s t : SeatState) (ss ts : List SeatState) (before mid now : List Call) → KeepsPlace s t before mid → EndsAll ss ts mid now
-    → EndsAll (s ∷ ss) (t ∷ ts) before now
-ends_more s t ss ts before mid now one more =
-    let parts : SeatState → ℕ = λ s. s.tally.parts in
-    let good : SeatState → ℕ = λ s. s.tally.good in
-    let a : sum_by parts (t ∷ ts) ≡ 0 + t.tally.parts + sum_by parts ts = sum_by-append parts (t ∷ []) ts in
-    let b : sum_by parts (s ∷ ss) ≡ 0 + s.tally.parts + sum_by parts ss = sum_by-append parts (s ∷ []) ss in
-    let e : sum_by good (t ∷ ts) ≡ 0 + t.tally.good + sum_by good ts = sum_by-append good (t ∷ []) ts in
-    let f : sum_by good (s ∷ ss) ≡ 0 + s.tally.good + sum_by good ss = sum_by-append good (s ∷ []) ss in
-    let first : t.tally.good + good_calls before ≤ s.tally.good + good_calls mid = one.tally in
-    let rest : sum_by good ts + good_calls mid ≤ sum_by good ss + good_calls now = more.good in
-    let same : sum_by parts ts ≡ sum_by parts ss = more.parts in
-    record {
-      workers = rw one.worker (ap (λ ws. s.worker ∷ ws) more.workers);
-      parts = omega (arith, a, b, one.parts, same);
-      good = omega (arith, e, f, first, rest);
-    }
+-- one post, and then the others
+pub each_more : {P : Type 0} (seat : P → SeatState) (waiting : P → List ℕ) (flushes : Bool) (number other : ℕ) (room : ℕ) (p q : P) (posts ps qs : List P)
+    (before mid now : List Call) (d m n : Option State) → posts ≡ p ∷ ps → other ≡ number
+    → WhereKnown d m (EndsPost flushes room number (waiting p) (waiting q) (seat p) (seat q).held before mid)
+    → WhereKnown m n (EndsEach seat waiting flushes other ps qs mid now)
+    → WhereKnown d n (EndsEach seat waiting flushes number posts (q ∷ qs) before now)
+each_more seat waiting flushes number other room p q posts ps qs before mid now None m n first same one more = tt
+each_more seat waiting flushes number other room p q posts ps qs before mid now (Some s) None n first same one more = absurd one
+each_more seat waiting flushes number other room p q posts ps qs before mid now (Some s) (Some h) None first same one more = absurd more
+each_more seat waiting flushes number other room p q posts ps qs before mid now (Some s) (Some h) (Some t) first same one more =
+    subst (λ xs. EndsEach seat waiting flushes number xs (q ∷ qs) before now s t) (sym first)
+    (room, mid, h, one, subst (λ k. EndsEach seat waiting flushes k ps qs mid now h t) same more)

@@ -1,9 +1,10 @@
 -- The result of serving, from the beginning of a domain to its end.
-use Rattle.std.specs.Prelude.{ℕ, ◌≡◌, ◌+◌, ◌≤◌, List, [], Option, Some, None, map, sum_by}
+use Rattle.std.specs.Prelude.{ℕ, ◌≡◌, ◌+◌, ◌≤◌, Bool, List, [], ◌∷◌, Option, Some, None, map, sum_by}
 use Rattle.iova_model.specs.State.{State}
 use Rattle.iova_sink.specs.Calls.{Call, good_calls}
 use Rattle.iova_keep.specs.Views.{SeatState, TallyState, RisesWithin}
 use Rattle.iova_lock.specs.Books.{tally_parts, tally_good}
+use Rattle.iova_session.specs.Posts.{EndsPost}
 
 -- the calls of a sink, where there is one
 abbrev pub last_calls : {E : Type 0} → (E → List Call) → Option E → List Call
@@ -20,6 +21,19 @@ pub record EndsAll (seats seats_now : List SeatState) (before now : List Call) :
   pub workers : workers_of seats_now ≡ workers_of seats
   pub parts : tally_parts seats_now ≡ tally_parts seats
   pub good : RisesWithin (tally_good seats) (tally_good seats_now) before now
+
+-- Each of these posts is ended, one after the other, in a domain of this number, from s to t: its
+-- clients that wait are tried once more, and then, where a flush is wanted, what is in a ring is
+-- flushed and drained.
+abbrev pub EndsEach : {P : Type 0} → (seat : P → SeatState) → (waiting : P → List ℕ) → (flushes : Bool)
+    → (number : ℕ) → (posts posts_now : List P) → (before now : List Call) → State → State → Type 0
+EndsEach seat waiting flushes number [] [] before now s t = (now ≡ before) × (t ≡ s)
+EndsEach seat waiting flushes number [] (q ∷ qs) before now s t = ⊥
+EndsEach seat waiting flushes number (p ∷ ps) [] before now s t = ⊥
+EndsEach seat waiting flushes number (p ∷ ps) (q ∷ qs) before now s t =
+    (room : ℕ) × (calls : List Call) × (here : State)
+    × EndsPost flushes room number (waiting p) (waiting q) (seat p) (seat q).held before calls s here
+    × EndsEach seat waiting flushes number ps qs calls now here t
 
 -- A domain that is taken out of its lock counts as many flushes that ended well as were counted at
 -- these seats and by this tally before, and at most as many more as a sink was given good calls.

@@ -1,13 +1,13 @@
 //! A daemon: the sessions of a plan, served on a socket, and the report of what they leave.
 ghost use Rattle.std.specs.Prelude.{◌≡◌, ◌<◌, ◌≤◌, ◌+◌, ◌*◌, ◌||◌, true, [], None, Some, Err, IfErr, IfOk, IfSome, is_some, map, length, slice_get, vec_len, vec_capacity};
 ghost use Rattle.iova_range.specs.declared.limits.TheConstants.{SEAT_PARTS};
-ghost use Rattle.iova_keep.specs.Views.{AreBlanksOf, seats_in_turn};
+ghost use Rattle.iova_keep.specs.Views.{AreBlanksOf, WhereKnown, seats_in_turn};
 ghost use Rattle.iova_lock.specs.Books.{tally_parts};
 ghost use Rattle.iova_command.specs.declared.plan.Plan.{Plan};
 ghost use Rattle.iova_files.specs.Sinks.{IsOpened};
 ghost use Rattle.iova_planned.specs.PlannedDomains.{AreNewSeats, seat_count};
 ghost use Rattle.iovad.specs.Plans.{AreFactsOf, IsAboveProfile, IsBoundsOf, IsFaultOfServing, is_peer, planned_limits, planned_turns};
-ghost use Rattle.iovad.specs.Ends.{EndsAll, EndsCounted, IsAnswered, last_calls, workers_of};
+ghost use Rattle.iovad.specs.Ends.{EndsAll, EndsCounted, EndsEach, IsAnswered, last_calls, workers_of};
 
 use iova_command::plan::Plan;
 use iova_command::plan_words::PlanWords;
@@ -328,10 +328,8 @@ where
     requires parts { B.ledgers.good.parts ≡ SEAT_PARTS * shared.seats }
     requires sinks { 2 ≤ length sinks.now }
 {
-    match serve_and_end(run, files, shared, posts, sinks, accept) {
-        Ok(ended) => Ok((ended.domain, ended.recorded)),
-        Err(why) => Err(why),
-    }
+    let ended = serve_and_end(run, files, shared, posts, sinks, accept)?;
+    Ok((ended.domain, ended.recorded))
 }
 
 /// What a service leaves: its domain, whether its record is written, and the sinks that served:
@@ -577,11 +575,8 @@ fn open_record<'p, R: Host>(
         return Ok(None);
     };
     let sink = run.plan.sink.path();
-    let regions = match run.plan.regions {
-        Some(name) => path_of_input(name),
-        // no other file is read
-        None => sink,
-    };
+    // where there are no regions, no other file is read
+    let regions = run.plan.regions.map_or(sink, path_of_input);
     let file = RecordFile::open(run.rt, run.notices, path, &[sink, regions]);
     Ok(Some(file.ok_or(StartFault::CannotWrite)?))
 }
@@ -697,7 +692,11 @@ where
     B: Names,
     K: Keep<B>,
     E: Sink,
-    ensures { EndsAll (map (λ p. p.seat) posts.old) (map (λ p. p.seat) posts.new)
+    ensures same { K.identity keeper.new ≡ K.identity keeper.old }
+    ensures each { WhereKnown (K.domain keeper.old) (K.domain keeper.new)
+        (EndsEach (λ p. p.seat) (λ p. p.waiting.items) stops (K.identity keeper.old).number
+        posts.old posts.new (E.calls sink.old) (E.calls sink.new)) }
+    ensures all { EndsAll (map (λ p. p.seat) posts.old) (map (λ p. p.seat) posts.new)
         (E.calls sink.old) (E.calls sink.new) }
 {
     let Some((post, more)) = posts.split_first_mut() else {

@@ -1,5 +1,4 @@
-use Rattle.std.proofs.Common.{◌≡◌, ◌≤◌, ◌^◌, ℕ, inl, inr, refl, arith}
-use Rattle.iova_c.specs.Granules.{IsGranule}
+use Rattle.std.proofs.Common.{inl, inr, refl, arith}
 use Rattle.iova_c.proofs.Granules.{none_of, shifted}
 use Rattle.iova_c.proofs.granule.granule_of.Goals as goal
 use Rattle.iova_c.proofs.granule.granule_of.Goals.{then-shift-lt12-via-then-shift-lt12, then-shift-lt12-via-else-shift-lt12+then-shift-gt21, then-shift-lt12-via-else-shift-lt12+else-shift-gt21+then-bytes-shift}

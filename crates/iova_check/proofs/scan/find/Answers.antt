@@ -1,6 +1,5 @@
-use Rattle.std.proofs.Common.{◌≡◌, ◌∙◌, ap, sym, inl, inr, None, arith, rules}
+use Rattle.std.proofs.Common.{◌≡◌, inl, inr, None, arith, rules}
 use Rattle.std.proofs.lemmas.Bool.{cases_lt}
-use Rattle.iova_check.specs.Findings.{since_of}
 use Rattle.iova_check.proofs.scan.find.Goals as goal
 
 pub loop-at-preserved : goal.loop-at-preserved

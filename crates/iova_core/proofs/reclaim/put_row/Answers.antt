@@ -1,5 +1,4 @@
-use Rattle.std.proofs.Common.{◌+◌, ◌≤◌, arith}
-use Rattle.iova_model.specs.Flushes.{entry_range}
+use Rattle.std.proofs.Common.{arith}
 use Rattle.iova_core.proofs.Reclaims.{has_low, backed_has}
 use Rattle.iova_core.proofs.Drains.{row_none, row_backed, row_fits, row_next}
 use Rattle.iova_core.proofs.reclaim.put_row.Goals as goal

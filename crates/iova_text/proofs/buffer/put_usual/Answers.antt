@@ -1,4 +1,4 @@
-use Rattle.std.proofs.Common.{◌≡◌, ◌≤◌, ◌<◌, ◌^◌, ◌/◌, ◌%◌, ◌++◌, ℕ, decimal, ◌∙◌, ap, arith, append_assoc}
+use Rattle.std.proofs.Common.{◌≡◌, ◌≤◌, ◌<◌, ◌^◌, ◌/◌, ◌%◌, ◌++◌, ℕ, decimal, arith, append_assoc}
 use Rattle.itoa.proofs.Decimal.{decimal_four, pair}
 use Rattle.iova_text.proofs.buffer.put_usual.Goals as goal
 

@@ -1,7 +1,6 @@
-use Rattle.std.proofs.Common.{◌≡◌, ◌+◌, ◌<◌, length, find, None, Err, refl, sym, ap, ◌∙◌, arith}
-use Rattle.iova_model.specs.Clients.{begins_at}
+use Rattle.std.proofs.Common.{◌+◌, ◌<◌, length, refl, sym, ap, ◌∙◌, arith}
 use Rattle.iova_cache.specs.Held.{home_of}
-use Rattle.iova_cache.proofs.Tables.{IsTable-less, seen_out_of, at_home, not_at_home, stray_none, found_begins}
+use Rattle.iova_cache.proofs.Tables.{IsTable-less, seen_out_of, at_home, stray_none, found_begins}
 use Rattle.iova_cache.proofs.table.Table.take_at_home.Goals as goal
 
 pub invariant_of-self : goal.invariant_of-self

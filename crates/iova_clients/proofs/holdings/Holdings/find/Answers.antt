@@ -1,4 +1,4 @@
-use Rattle.std.proofs.Common.{◌≡◌, ◌-◌, get_or, sym, arith, ◌∙◌}
+use Rattle.std.proofs.Common.{◌-◌, sym, arith, ◌∙◌}
 use Rattle.iova_clients.proofs.Looking.{looked_none, looked_below, looked_some, newest_found, not_newest}
 use Rattle.iova_clients.proofs.holdings.Holdings.find.Goals as goal
 

@@ -1,4 +1,4 @@
-use Rattle.std.proofs.Common.{◌≡◌, ℕ, length-take-le, sym, arith}
+use Rattle.std.proofs.Common.{length-take-le, sym, arith}
 use Rattle.iova_sink.proofs.HandedOn.{handed_on}
 use Rattle.iova_sink.proofs.ahead.Ahead.take.Goals as goal
 
