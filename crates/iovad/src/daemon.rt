@@ -1,10 +1,11 @@
 //! A daemon: the sessions of a plan, served on a socket, and the report of what they leave.
-ghost use Rattle.std.specs.Prelude.{◌≡◌, ◌<◌, ◌≤◌, ◌+◌, ◌*◌, ◌||◌, true, [], None, Some, Err, IfErr, IfOk, IfSome, is_some, map, length, slice_get, vec_len, vec_capacity};
+ghost use Rattle.std.specs.Prelude.{◌≡◌, ◌<◌, ◌≤◌, ◌+◌, ◌*◌, ◌||◌, ℕ, true, List, [], None, Some, Err, IfErr, IfOk, IfSome, is_some, map, length, slice_get, vec_len, vec_capacity};
 ghost use Rattle.iova_range.specs.declared.limits.TheConstants.{SEAT_PARTS};
 ghost use Rattle.iova_keep.specs.Views.{AreBlanksOf, WhereKnown, seats_in_turn};
 ghost use Rattle.iova_lock.specs.Books.{tally_parts};
 ghost use Rattle.iova_command.specs.declared.plan.Plan.{Plan};
 ghost use Rattle.iova_files.specs.Sinks.{IsOpened};
+ghost use Rattle.iova_regions.specs.Regions.{IsReadWell};
 ghost use Rattle.iova_planned.specs.PlannedDomains.{AreNewSeats, seat_count};
 ghost use Rattle.iovad.specs.Plans.{AreFactsOf, IsAboveProfile, IsBoundsOf, IsFaultOfServing, is_peer, planned_limits, planned_turns};
 ghost use Rattle.iovad.specs.Ends.{EndsAll, EndsCounted, EndsEach, IsAnswered, last_calls, workers_of};
@@ -178,8 +179,7 @@ fn new_signals<R: Host>(rt: &R) -> Signals {
     Signals::new(processors, started)
 }
 
-/// What keeps a daemon from its end once it has a domain: a plain value, which no function has to
-/// drop.
+/// What keeps a daemon from its end once it has a domain: a plain value, which nothing drops.
 #[derive(Clone, Copy)]
 enum StartFault {
     CannotOpenSink,
@@ -641,13 +641,14 @@ fn bounds_of(plan: &Plan<'_>) -> Result<Bounds, Fault<'static>>
 #[tactic(auto, using(crate::proofs::Reading::of_regions))]
 fn windows_of<'a, R: Host>(rt: &R, plan: &Plan<'a>, bounds: Bounds) -> Result<Windows, Fault<'a>>
     ensures named { plan.now.regions ≡ None → IfOk result (λ ws. ws ≡ plan.now.windows) }
+    ensures read { IfSome plan.now.regions (λ name. IfOk result (λ ws. (text : List ℕ)
+        × IsReadWell Counted.All bounds text plan.now.windows ws)) }
     ensures faults { IfErr result (IsFaultOfServing plan.now) }
 {
     let mut windows = plan.windows.copied();
-    let Some(path) = plan.regions else {
-        return Ok(windows);
-    };
-    add_regions(rt, path, Counted::All, bounds, &mut windows)?;
+    if let Some(path) = plan.regions {
+        add_regions(rt, path, Counted::All, bounds, &mut windows)?;
+    }
     Ok(windows)
 }
 
