@@ -43,21 +43,21 @@ first_opened path reset [] x new old = new refl
 first_opened path reset (y ∷ ys) x new old = old
 
 -- where there is no post, or none that is left, nothing is ended
-pub each_none : {P : Type 0} (seat : P → SeatState) (waiting : P → List ℕ) (flushes : Bool) (number : ℕ) (calls : List Call) (d : Option State)
-    (posts : List P) → length posts ≡ 0 → WhereKnown d d (EndsEach seat waiting flushes number posts posts calls calls)
-each_none seat waiting flushes number calls None posts none = tt
-each_none seat waiting flushes number calls (Some s) [] none = (refl, refl)
-each_none seat waiting flushes number calls (Some s) (p ∷ ps) none = absurd cc
+pub each_none : {P : Type 0} (seat : P → SeatState) (waiting : P → List ℕ) (room : P → ℕ) (flushes : Bool) (number : ℕ) (calls : List Call) (d : Option State)
+    (posts : List P) → length posts ≡ 0 → WhereKnown d d (EndsEach seat waiting room flushes number posts posts calls calls)
+each_none seat waiting room flushes number calls None posts none = tt
+each_none seat waiting room flushes number calls (Some s) [] none = (refl, refl)
+each_none seat waiting room flushes number calls (Some s) (p ∷ ps) none = absurd cc
 
 -- one post, and then the others
-pub each_more : {P : Type 0} (seat : P → SeatState) (waiting : P → List ℕ) (flushes : Bool) (number other : ℕ) (room : ℕ) (p q : P) (posts ps qs : List P)
+pub each_more : {P : Type 0} (seat : P → SeatState) (waiting : P → List ℕ) (room : P → ℕ) (flushes : Bool) (number other : ℕ) (p q : P) (posts ps qs : List P)
     (before mid now : List Call) (d m n : Option State) → posts ≡ p ∷ ps → other ≡ number
-    → WhereKnown d m (EndsPost flushes room number (waiting p) (waiting q) (seat p) (seat q).held before mid)
-    → WhereKnown m n (EndsEach seat waiting flushes other ps qs mid now)
-    → WhereKnown d n (EndsEach seat waiting flushes number posts (q ∷ qs) before now)
-each_more seat waiting flushes number other room p q posts ps qs before mid now None m n first same one more = tt
-each_more seat waiting flushes number other room p q posts ps qs before mid now (Some s) None n first same one more = absurd one
-each_more seat waiting flushes number other room p q posts ps qs before mid now (Some s) (Some h) None first same one more = absurd more
-each_more seat waiting flushes number other room p q posts ps qs before mid now (Some s) (Some h) (Some t) first same one more =
-    subst (λ xs. EndsEach seat waiting flushes number xs (q ∷ qs) before now s t) (sym first)
-    (room, mid, h, one, subst (λ k. EndsEach seat waiting flushes k ps qs mid now h t) same more)
+    → WhereKnown d m (EndsPost flushes (room p) number (waiting p) (waiting q) (seat p) (seat q).held before mid)
+    → WhereKnown m n (EndsEach seat waiting room flushes other ps qs mid now)
+    → WhereKnown d n (EndsEach seat waiting room flushes number posts (q ∷ qs) before now)
+each_more seat waiting room flushes number other p q posts ps qs before mid now None m n first same one more = tt
+each_more seat waiting room flushes number other p q posts ps qs before mid now (Some s) None n first same one more = absurd one
+each_more seat waiting room flushes number other p q posts ps qs before mid now (Some s) (Some h) None first same one more = absurd more
+each_more seat waiting room flushes number other p q posts ps qs before mid now (Some s) (Some h) (Some t) first same one more =
+    subst (λ xs. EndsEach seat waiting room flushes number xs (q ∷ qs) before now s t) (sym first)
+    (mid, h, one, subst (λ k. EndsEach seat waiting room flushes k ps qs mid now h t) same more)

@@ -23,17 +23,19 @@ pub record EndsAll (seats seats_now : List SeatState) (before now : List Call) :
   pub good : RisesWithin (tally_good seats) (tally_good seats_now) before now
 
 -- Each of these posts is ended, one after the other, in a domain of this number, from s to t: its
--- clients that wait are tried once more, and then, where a flush is wanted, what is in a ring is
--- flushed and drained.
-abbrev pub EndsEach : {P : Type 0} → (seat : P → SeatState) → (waiting : P → List ℕ) → (flushes : Bool)
-    → (number : ℕ) → (posts posts_now : List P) → (before now : List Call) → State → State → Type 0
-EndsEach seat waiting flushes number [] [] before now s t = (now ≡ before) × (t ≡ s)
-EndsEach seat waiting flushes number [] (q ∷ qs) before now s t = ⊥
-EndsEach seat waiting flushes number (p ∷ ps) [] before now s t = ⊥
-EndsEach seat waiting flushes number (p ∷ ps) (q ∷ qs) before now s t =
-    (room : ℕ) × (calls : List Call) × (here : State)
-    × EndsPost flushes room number (waiting p) (waiting q) (seat p) (seat q).held before calls s here
-    × EndsEach seat waiting flushes number ps qs calls now here t
+-- clients that wait are tried once more, where it has room for the ranges of a client, and then,
+-- where a flush is wanted, what is in a ring is flushed and drained.
+abbrev pub EndsEach : {P : Type 0} → (seat : P → SeatState) → (waiting : P → List ℕ)
+    → (room : P → ℕ) → (flushes : Bool) → (number : ℕ) → (posts posts_now : List P)
+    → (before now : List Call) → State → State → Type 0
+EndsEach seat waiting room flushes number [] [] before now s t = (now ≡ before) × (t ≡ s)
+EndsEach seat waiting room flushes number [] (q ∷ qs) before now s t = ⊥
+EndsEach seat waiting room flushes number (p ∷ ps) [] before now s t = ⊥
+EndsEach seat waiting room flushes number (p ∷ ps) (q ∷ qs) before now s t =
+    (calls : List Call) × (here : State)
+    × EndsPost flushes (room p) number (waiting p) (waiting q) (seat p) (seat q).held before calls s
+    here
+    × EndsEach seat waiting room flushes number ps qs calls now here t
 
 -- A domain that is taken out of its lock counts as many flushes that ended well as were counted at
 -- these seats and by this tally before, and at most as many more as a sink was given good calls.

@@ -695,8 +695,8 @@ where
     E: Sink,
     ensures same { K.identity keeper.new ≡ K.identity keeper.old }
     ensures each { WhereKnown (K.domain keeper.old) (K.domain keeper.new)
-        (EndsEach (λ p. p.seat) (λ p. p.waiting.items) stops (K.identity keeper.old).number
-        posts.old posts.new (E.calls sink.old) (E.calls sink.new)) }
+        (EndsEach (λ p. p.seat) (λ p. p.waiting.items) (λ p. vec_capacity p.ranges) stops
+        (K.identity keeper.old).number posts.old posts.new (E.calls sink.old) (E.calls sink.new)) }
     ensures all { EndsAll (map (λ p. p.seat) posts.old) (map (λ p. p.seat) posts.new)
         (E.calls sink.old) (E.calls sink.new) }
 {
