@@ -76,67 +76,24 @@ pub(crate) fn ask_alone<B: Names, K: Keep<B>, D: Sink>(
     ensures shares { MovesBy (given_by result) (taken_by result) seat.old.held seat.new.held }
     ensures place { KeepsPlace seat.old seat.new (D.calls sink.old) (D.calls sink.new) }
 {
-    let flushes = may_flush(request);
-    lock_where(sink, flushes);
-    let answer = ask_locked(alloc, keeper, seat, sink, id, listed, request);
-    unlock_where(sink, flushes);
-    answer
-}
-
-/// Whether a flush may come of it, which begins in the hold that unmaps.
-fn may_flush(request: Request) -> bool {
-    matches!(request, Request::Free { lo: _ } | Request::Flush)
-}
-
-/// Locks the sink where that is wanted.
-pub(crate) fn lock_where<D: Sink>(sink: &mut D, wanted: bool)
-    ensures { D.calls sink.new ≡ D.calls sink.old }
-{
-    if wanted {
-        sink.lock();
-    }
-}
-
-/// Unlocks the sink, where it was locked.
-pub(crate) fn unlock_where<D: Sink>(sink: &mut D, wanted: bool)
-    ensures { D.calls sink.new ≡ D.calls sink.old }
-{
-    if wanted {
-        sink.unlock();
-    }
-}
-
-/// Asks the keeper, with the sink locked already where that is needed.
-fn ask_locked<B: Names, K: Keep<B>, D: Sink>(
-    alloc: Global,
-    keeper: &mut K,
-    seat: &mut Seat<B>,
-    sink: &mut D,
-    id: ClientId,
-    listed: u64,
-    request: Request,
-) -> Answer
-    requires listed { listed ≤ MAX_LISTED }
-    requires alloc { (frames : ℕ) → (limit : ℕ) → request ≢ Request.Alloc frames limit }
-    requires stat { request ≢ Request.Stat }
-    ensures same { K.identity keeper.new ≡ K.identity keeper.old }
-    ensures answer { IsClientAnswer listed request result }
-    ensures does { WhereKnown (K.domain keeper.old) (K.domain keeper.new)
-        (ClientDoes (K.identity keeper.old).strict
-        (K.identity keeper.old).number seat.old id listed request
-        result
-        (D.calls sink.old) (D.calls sink.new)) }
-    ensures shares { MovesBy (given_by result) (taken_by result) seat.old.held seat.new.held }
-    ensures place { KeepsPlace seat.old seat.new (D.calls sink.old) (D.calls sink.new) }
-{
     match request {
         Request::Hello { domain: _, sac: _ } => Answer::Refused(Refusal::Twice),
-        Request::Free { lo } => match release(keeper, seat, sink, id, lo) {
-            Ok(unmapped) => released(unmapped),
-            Err(refusal) => Answer::Refused(refusal),
-        },
+        Request::Free { lo } => {
+            sink.lock();
+            let result = release(keeper, seat, sink, id, lo);
+            sink.unlock();
+            match result {
+                Ok(unmapped) => released(unmapped),
+                Err(refusal) => Answer::Refused(refusal),
+            }
+        }
         Request::List => list(alloc, keeper, seat, id, listed),
-        Request::Flush => flush_and_drain(keeper, seat, sink),
+        Request::Flush => {
+            sink.lock();
+            let answer = flush_and_drain(keeper, seat, sink);
+            sink.unlock();
+            answer
+        }
         Request::Bye => Answer::Bye,
         Request::Alloc {
             frames: _,

@@ -5,7 +5,6 @@ ghost use Rattle.iova_keep.specs.Views.{WhereKnown, LowersTold, KeepsPlace};
 ghost use Rattle.iova_session.specs.Leaving.{Attempts, Departs, IsTold, still_waits};
 ghost use Rattle.iova_model.specs.Clients.{client_of, holdings_in};
 
-use crate::asking::{lock_where, unlock_where};
 use iova_keep::closing::end_client;
 use iova_keep::ending::{Ending, Why};
 use iova_keep::keep::Keep;
@@ -161,5 +160,23 @@ pub(crate) fn waits(ended: Result<Ending, Refusal>) -> bool
     match ended {
         Ok(Ending::Waiting(_, _)) => true,
         Ok(Ending::Ended(_)) | Err(_) => false,
+    }
+}
+
+/// Locks the sink where that is wanted.
+fn lock_where<D: Sink>(sink: &mut D, wanted: bool)
+    ensures { D.calls sink.new ≡ D.calls sink.old }
+{
+    if wanted {
+        sink.lock();
+    }
+}
+
+/// Unlocks the sink, where it was locked.
+fn unlock_where<D: Sink>(sink: &mut D, wanted: bool)
+    ensures { D.calls sink.new ≡ D.calls sink.old }
+{
+    if wanted {
+        sink.unlock();
     }
 }
