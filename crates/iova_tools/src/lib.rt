@@ -1,15 +1,12 @@
-//! The commands that serve nothing: a trace replayed, a log checked, a daemon asked. And the faults
+//! The commands that serve nothing: a trace replayed, a log checked, lines asked. And the faults
 //! that a run ends by, what a daemon prints at its end, and reserved regions read from a file.
 #![tactic(auto)]
 
 pub mod answer;
 pub mod asking;
 pub mod checking;
-pub mod controlling;
 pub mod fault;
 pub mod outcome;
 pub mod regions;
 pub mod replaying;
-mod sight;
 pub mod verdict;
-pub mod watching;

@@ -1,9 +1,9 @@
 //! A daemon asked over its control socket.
-use crate::fault::Fault;
 use iova_command::control_word::ControlWord;
 use iova_files::cause::tell_cause;
 use iova_links::dial::connect_within;
 use iova_range::limits::CONTROL_TIMEOUT;
+use iova_tools::fault::Fault;
 use log::{Log, error};
 use memchr::{memchr, memchr_iter};
 use std::io::{Read, Write};

@@ -1,9 +1,9 @@
 //! A daemon watched: what is counted of it, looked at again and again.
 use crate::controlling::{asked, told};
-use crate::fault::Fault;
 use crate::sight::{PLACES, Sight};
 use iova_command::control_word::ControlWord;
 use iova_files::cause::tell_cause;
+use iova_tools::fault::Fault;
 use log::{Log, error};
 use std::alloc::AllocError;
 use std::io::{ErrorKind, Write};
