@@ -1,5 +1,5 @@
 //! A daemon: the sessions of a plan, served on a socket, and the report of what they leave.
-ghost use Rattle.std.specs.Prelude.{◌≡◌, ◌<◌, ◌≤◌, ◌+◌, ◌++◌, ◌*◌, ◌||◌, ℕ, true, List, [], ◌∷◌, None, Some, Err, IfErr, IfOk, IfSome, is_some, map, length, slice_get, vec_len, vec_capacity};
+ghost use Rattle.std.specs.Prelude.{◌≡◌, ◌<◌, ◌≤◌, ◌+◌, ◌*◌, ◌||◌, ℕ, true, List, [], None, Some, Err, IfErr, IfOk, IfSome, is_some, map, length, slice_get, vec_len, vec_capacity};
 ghost use Rattle.iova_range.specs.declared.limits.TheConstants.{SEAT_PARTS};
 ghost use Rattle.iova_keep.specs.Views.{AreBlanksOf, WhereKnown, seats_in_turn};
 ghost use Rattle.iova_lock.specs.Books.{tally_parts};
@@ -128,8 +128,11 @@ where
     let bounds = bounds_of(plan)?;
     let windows = windows_of(rt, plan, bounds)?;
     let signals = new_signals(rt);
+    let warns = plan.log_level != LevelFilter::Error;
     let name = said.text("name").unwrap_or("");
-    let notices = notices_of(rt, &signals, plan, name);
+    let console = CountedConsole::new(rt, &signals, warns, name);
+    // warnings are counted at any level, since those of flushes that failed are among them
+    let notices = Logged::new(rt, plan.log_level.max(LevelFilter::Warn), console);
     tell_start(&notices, said, &windows);
     let Some((shared, posts)) = new_domain::<R, B>(rt, plan, bounds, &windows, blanks) else {
         return Err(Fault::NoMemory);
@@ -152,20 +155,13 @@ where
         Ok((sinks, accept)) => serve_opened(&run, &mut files, shared, posts, &sinks, &accept),
         Err(why) => Err(why),
     };
-    finish(&run, &files, left)
-}
-
-/// The notices of the plan's daemon of this name: a counted console, at the level that is said.
-fn notices_of<'a, R: Host>(
-    rt: &'a R,
-    signals: &'a Signals,
-    plan: &Plan<'_>,
-    name: &'a str,
-) -> Notices<'a, R> {
-    let warns = plan.log_level != LevelFilter::Error;
-    let console = CountedConsole::new(rt, signals, warns, name);
-    // warnings are counted at any level, since those of flushes that failed are among them
-    Logged::new(rt, plan.log_level.max(LevelFilter::Warn), console)
+    match left {
+        Ok((domain, recorded)) => finish(&run, domain, recorded),
+        Err(why) => {
+            files.remove(&run);
+            Err(why.fault())
+        }
+    }
 }
 
 /// Writes a notice of what is served, in the words of the command line.
@@ -305,16 +301,6 @@ fn open_all<'a, 'p, R: Host, B: Names>(
     ensures { IfOk result (λ o. 2 ≤ vec_len o.0) }
 {
     let sinks = open_sinks_first(run)?;
-    let accept = open_files(run, files, shared)?;
-    Ok((sinks, accept))
-}
-
-/// Opens the record's file and the sockets, and begins the record.
-fn open_files<'a, 'p, R: Host, B: Names>(
-    run: &Running<'a, 'p, R>,
-    files: &mut StartFiles<'p>,
-    shared: &Shared<&'a R, B>,
-) -> Result<DaemonAccept<'a, R>, StartFault> {
     files.record = open_record(run)?;
     files.control = listen_for_control(run)?;
     let accept = listen_for_sessions(run)?;
@@ -322,7 +308,7 @@ fn open_files<'a, 'p, R: Host, B: Names>(
         accept.close();
         return Err(why);
     }
-    Ok(accept)
+    Ok((sinks, accept))
 }
 
 /// Serves the plan's sessions, and gives the domain that is left, and whether its record is written.
@@ -560,23 +546,11 @@ fn open_sinks<'a, R: Host>(
     };
     for at in 0..count {
         let reset = if at == 0 { Some(run.plan.domain) } else { None };
-        sinks = with_one_more(sinks, open_one(run, SinkPlace::of(run.plan), reset))?;
+        let sink = open_one(run, SinkPlace::of(run.plan), reset).ok_or(StartFault::CannotOpenSink)?;
+        let Ok(()) = sinks.push(sink) else {
+            unreachable!();
+        };
     }
-    Ok(sinks)
-}
-
-/// These sinks, and behind them one more, where it could be opened. Refused by `CannotOpenSink`.
-fn with_one_more<D: Drop>(mut sinks: Vec<D>, sink: Option<D>) -> Result<Vec<D>, StartFault>
-    requires room { vec_len sinks + 1 ≤ vec_capacity sinks }
-    ensures ok { IfOk result (λ v. (vec_capacity sinks ≤ vec_capacity v)
-        × (one : D) × (sink ≡ Some one) × (v.items ≡ sinks.items ++ one ∷ [])) }
-{
-    let Some(sink) = sink else {
-        return Err(StartFault::CannotOpenSink);
-    };
-    let Ok(()) = sinks.push(sink) else {
-        unreachable!();
-    };
     Ok(sinks)
 }
 
@@ -607,27 +581,9 @@ fn open_record<'p, R: Host>(
     Ok(Some(file.ok_or(StartFault::CannotWrite)?))
 }
 
-/// Ends a run: reports the domain that is left, or removes the files that a start has made which is
-/// refused.
-fn finish<R: Host>(
-    run: &Running<'_, '_, R>,
-    files: &StartFiles<'_>,
-    left: Result<(Domain, Result<(), StartFault>), StartFault>,
-) -> Result<(), Fault<'static>>
-    ensures { IfErr result (IsFaultOfServing run.now.plan.now) }
-{
-    match left {
-        Ok((domain, recorded)) => report(run, domain, recorded),
-        Err(why) => {
-            files.remove(run);
-            Err(why.fault())
-        }
-    }
-}
-
 /// Prints the domain, where the record was written, and says what is left of it at clients and in
 /// rings, where the daemon was stopped and anything is.
-fn report<R: Host>(
+fn finish<R: Host>(
     run: &Running<'_, '_, R>,
     domain: Domain,
     recorded: Result<(), StartFault>,
