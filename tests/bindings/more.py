@@ -51,6 +51,96 @@ with Domain(1, 2**20 - 1) as domain, domain.client() as client:
         client.map(1)
     raises(Refused, lambda: client.map(1), "HoldingsFull")
     holds("4,096 holdings", len(client.holdings()) == 4096)
+
+
+# caches whose invalidate fails, raises or flushes
+class Stop(Exception):
+    pass
+
+
+class Device:
+    """What invalidates: `does` says how it goes."""
+
+    def __init__(self):
+        self.does, self.calls, self.nested = True, 0, None
+
+    def __call__(self):
+        self.calls += 1
+        if self.does == "raise":
+            raise Stop
+        if self.does == "flush":
+            raises(Refused, self.nested, "FlightsFull")
+            return True
+        return self.does
+
+
+def full_ring(cache, more):
+    """255 ranges wait, and so many more are held."""
+    many, more = [cache.map(4096) for _ in range(255)], [cache.map(4096) for _ in range(more)]
+    for one in many:
+        one.unmap()
+    return more
+
+
+# 32 flushes are in flight, of which none has ended: what a with ends is owed, and so is what it ends where invalidate raises
+with Domain(1, 100000) as domain:
+    device = Device()
+    with domain.cache(device) as cache:
+        more = full_ring(cache, 6)
+        flights = [domain.begin() for _ in range(32)]
+        with more[0]:
+            pass
+        holds("a with is owed where no flush can begin", cache.owed == 1 and cache.counts().held == 6)
+        raises(Refused, more[1].unmap, "RingFull")
+        raises(Refused, cache.flush, "FlightsFull")
+        for number in flights:
+            domain.end(number, False)
+        device.does = "raise"
+        for one in more[1:4]:
+            try:
+                with one:
+                    pass
+                print("what invalidate raises isn't raised by a with")
+            except Stop:
+                pass
+        holds(f"what a with ends is owed where invalidate raises: {cache.owed}", cache.owed == 4)
+        # and stays so where that raises while it is paid
+        for call in (lambda: cache.map(1), cache.give_back, lambda: cache.map(1)):
+            raises(Stop, call)
+        holds(f"what is owed stays so: {cache.owed}, {cache.counts()}", cache.owed == 4 and cache.counts().held == 6)
+        device.does = True
+        cache.map(1).unmap()
+        holds(f"it is given up later: {cache.owed}, {cache.counts()}", cache.owed == 0 and cache.counts().held == 2)
+    with domain.cache(device) as cache:
+        more, device.does = full_ring(cache, 40), False
+        for one in more:
+            with one:
+                pass
+        device.calls = 0
+        cache.map(1)
+        holds(f"40 owed cost one flush that fails: {device.calls}", cache.owed == 40 and device.calls == 1)
+        device.does, device.nested = "flush", cache.flush
+        cache.flush()
+        holds("a flush in invalidate is refused", domain.flushes().in_flight == 0)
+        # the end of a cache whose invalidate raises is owed by the domain
+        device.does = "raise"
+        for _ in range(300):
+            cache.map(4096)
+        raises(Stop, cache.close)
+    holds(f"the domain owes it: {domain.owed}", domain.owed == 1)
+    while domain.owed:
+        domain.flush(lambda: True)
+    holds("the clients are gone", domain.counts().clients == 0)
+    cache = domain.cache(lambda: True)
+    kept, left = cache.map(1), cache.map(1)
+raises(Refused, lambda: cache.map(1), "NoCache")
+raises(Refused, lambda: cache.alloc(64), "NoCache")
+raises(Refused, kept.unmap, "NoCache")
+raises(Refused, cache.counts, "NoCache")
+with left:
+    pass
+holds("nothing is owed in a domain that is closed", cache.owed == 0)
+cache.close()
 holds("a refusal of a later library", Refused(77).refusal is None and str(Refused(77)) == "refusal 77")
 holds("the version", iova.version() == 2000 and iova.__version__ == "0.2.0")
 

@@ -321,7 +321,7 @@ static void broken(void) {
 int main(void) {
     static const char *const names[] = {"BadPath",   "NoDaemon", "Broken", "Ended",
                                         "Malformed", "Full",     "Busy",   "NotAsked", "TimedOut",
-                                        "Strict",    "NoRoom"};
+                                        "Strict",    "NoRoom", "Forked"};
     requests(0);
     requests(4096);
     requests(7);
@@ -332,7 +332,7 @@ int main(void) {
     in_flight();
     broken();
     for (uint64_t error = 0; error <= UINT16_MAX; error++) {
-        int is_own = error >= IOVAD_BAD_PATH && error <= IOVAD_NO_ROOM;
+        int is_own = error >= IOVAD_BAD_PATH && error <= IOVAD_FORKED;
         const char *name = is_own ? names[error - IOVAD_BAD_PATH] : "";
         if (error < IOVAD_BAD_PATH)
             name = iova_refusal_name(error);

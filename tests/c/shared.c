@@ -1,16 +1,21 @@
 /* Caches of several threads before one domain, against a shadow of what a device may reach (shadow.h).
  *
- *     shared [SEED [SECONDS [THREADS [FRAMES [LOG]]]]]
+ *     shared [SEED [SECONDS [THREADS [FRAMES [LOG [ENDS]]]]]]
  *
  * The threads run for so many seconds, or without them for 20,000 operations each. One invalidation in four fails. Now
  * and then a thread gives up a range of another one's, flushes, gives all back, ends its cache and opens another one.
+ * With ENDS other threads flush that are cancelled in `invalidate`, before it or behind it, or that end themselves
+ * there, `invalidate` flushes now and then, and the process forks children, to which each call is refused.
  * At random what the domain's ledger has of a client is what its cache has at its places, and at the end all caches
  * are closed, and the domain has lost nothing. What was done goes to LOG, as `iovad check` reads it. */
 #define _GNU_SOURCE
 #include "iova_shared.h"
 #include "shadow.h"
 
-enum { HELD = 3000, THREADS = 16, WORKERS = 4, OPERATIONS = 20000 };
+#include <sys/wait.h>
+
+enum { HELD = 3000, THREADS = 16, WORKERS = 4, OPERATIONS = 20000, ENDING_LOG = THREADS + 1 };
+enum end { FLUSHES, MAY_BE_CANCELLED, EXITS, ENDS };
 
 struct user {
     pthread_t thread;
@@ -32,10 +37,32 @@ static double until; /* 0: by OPERATIONS */
 static _Atomic uint64_t holdings_full, closed, handed_over;
 static _Thread_local int my_log;
 static _Thread_local uint64_t my_state;
+static _Thread_local enum end my_end;
+static int has_ends;
+static _Atomic uint64_t ended, forked, nested;
+static _Atomic int is_over;
 
 static int invalidate(void *none) {
+    int was, went_well;
     (void)none;
-    return shadow_invalidate(my_log, &my_state, 1);
+    if (has_ends && below(&my_state, 50) == 0) {
+        MUST(iova_shared_flush(&shared) == IOVA_FLIGHTS_FULL);
+        atomic_fetch_add(&nested, 1);
+    }
+    if (my_end == MAY_BE_CANCELLED) {
+        pthread_setcancelstate(PTHREAD_CANCEL_ENABLE, &was);
+        usleep((useconds_t)below(&my_state, 300));
+        pthread_setcancelstate(PTHREAD_CANCEL_DISABLE, &was);
+    }
+    went_well = shadow_invalidate(my_log, &my_state, 1);
+    if (my_end == MAY_BE_CANCELLED) {
+        pthread_setcancelstate(PTHREAD_CANCEL_ENABLE, &was);
+        usleep((useconds_t)below(&my_state, 300));
+        pthread_setcancelstate(PTHREAD_CANCEL_DISABLE, &was);
+    }
+    if (my_end == EXITS)
+        pthread_exit(NULL);
+    return went_well;
 }
 
 static uint32_t id_of(const struct user *user) { return (uint32_t)user->number + 1; }
@@ -188,6 +215,53 @@ static void *run(void *argument) {
     return NULL;
 }
 
+/* A thread that flushes, and may end in that. */
+static void *flush_and_end(void *argument) {
+    uint64_t word = *(uint64_t *)argument;
+    my_log = ENDING_LOG;
+    my_state = word;
+    my_end = (enum end)(word % ENDS);
+    iova_shared_flush(&shared);
+    usleep(100);
+    return NULL;
+}
+
+static void fork_child(void) {
+    int status;
+    pid_t child = fork();
+    MUST(child >= 0);
+    if (child == 0) {
+        alarm(60);
+        for (iova_shared_cache *cache = shared.caches; cache; cache = cache->next)
+            MUST(iova_shared_alloc(cache, 1, IOVA_NO_LIMIT).refused == IOVA_NO_CACHE &&
+                 iova_shared_unmap(cache, 1).refused == IOVA_NO_CACHE);
+        for (uint64_t k = 0; k < threads; k++)
+            MUST(iova_shared_give_back(&users[k].cache) == IOVA_NO_CACHE);
+        MUST(iova_shared_flush(&shared) == IOVA_NO_DOMAIN);
+        _exit(0);
+    }
+    MUST(waitpid(child, &status, 0) == child && status == 0);
+    atomic_fetch_add(&forked, 1);
+}
+
+/* Threads end and children are forked, until the users are done. */
+static void *make_ends(void *argument) {
+    uint64_t state = *(uint64_t *)argument;
+    while (!atomic_load(&is_over)) {
+        pthread_t thread;
+        uint64_t word = below(&state, UINT32_MAX);
+        MUST(!pthread_create(&thread, NULL, flush_and_end, &word));
+        usleep((useconds_t)below(&state, 800));
+        if (below(&state, 2))
+            pthread_cancel(thread);
+        MUST(!pthread_join(thread, NULL));
+        atomic_fetch_add(&ended, 1);
+        if (below(&state, 100) == 0)
+            fork_child();
+    }
+    return NULL;
+}
+
 int main(int count, char **words) {
     uint64_t seed = count > 1 ? strtoull(words[1], NULL, 10) : 1;
     double seconds = count > 2 ? strtod(words[2], NULL) : 0;
@@ -207,10 +281,18 @@ int main(int count, char **words) {
         users[k].target = 100;
         open_cache(&users[k]);
     }
+    pthread_t ends;
+    has_ends = count > 6 && strcmp(words[6], "0");
+    if (has_ends)
+        MUST(!pthread_create(&ends, NULL, make_ends, &seed));
     for (uint64_t k = 0; k < threads; k++)
         MUST(!pthread_create(&users[k].thread, NULL, run, &users[k]));
     for (uint64_t k = 0; k < threads; k++)
         pthread_join(users[k].thread, NULL);
+    atomic_store(&is_over, 1);
+    if (has_ends)
+        pthread_join(ends, NULL);
+    MUST(iova_flushes_of(domain).in_flight == 0);
     atomic_store(&shadow->stops, 1);
     pthread_join(device, NULL);
     atomic_store(&shadow->fails_in, 0);
@@ -225,9 +307,10 @@ int main(int count, char **words) {
     if (count > 2)
         printf("shared: %" PRIu64 " given, %" PRIu64 " given up, %" PRIu64 " of them by another thread"
                ", NoSpace %" PRIu64 ", HoldingsFull %" PRIu64 ", RingFull %" PRIu64 ", flushes %" PRIu64 " good %" PRIu64
-               " failed, %" PRIu64 " caches closed\n",
+               " failed, %" PRIu64 " caches closed, %" PRIu64 " threads ended, %" PRIu64 " children, %" PRIu64
+               " flushes in invalidate\n",
                shadow->allocs, shadow->frees, handed_over, shadow->no_space, holdings_full, shadow->ring_full,
-               shadow->good, shadow->bad, closed);
+               shadow->good, shadow->bad, closed, ended, forked, nested);
     shadow_write(count > 5 ? words[5] : NULL);
     iova_shared_clear(&shared);
     iova_domain_free(domain);

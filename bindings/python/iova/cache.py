@@ -1,5 +1,6 @@
 """A cache of ranges in front of a domain: what iova_shared.h is in C, for one thread."""
 import ctypes
+import threading
 from types import TracebackType
 from typing import TYPE_CHECKING, Any, Callable, List, NamedTuple, Optional, Type
 
@@ -9,6 +10,8 @@ if TYPE_CHECKING:
     from .domain import Domain
 
 _ORDERS, _MAGAZINE, _RING, _EXCHANGED = 6, 256, 255, 64
+# by these a range is no longer the user's; by each other refusal it still is
+_GONE = (0, Refusal.NOT_HELD, Refusal.NO_CACHE, Refusal.NO_DOMAIN)
 
 
 class CacheCounts(NamedTuple):
@@ -43,14 +46,10 @@ class Cached:
         return self
 
     def __exit__(self, kind: Optional[Type[BaseException]], fault: Optional[BaseException], trace: Optional[TracebackType]) -> None:
-        """Gives it up; where no flush goes well the cache owes it, and does it at a later call."""
-        cache = self.cache
-        try:
-            self.unmap()
-        except Refused as refused:
-            if cache is not None and refused.refusal == Refusal.RING_FULL:
-                cache._owed.append(self._lo)
-            self.cache = None
+        """Gives it up. If no flush goes well, or invalidate raises, the cache owes it, and does it at a later call."""
+        cache, self.cache = self.cache, None
+        if cache is not None:
+            cache._give_up_or_owe(self._lo)
 
     def __repr__(self) -> str:
         return f"<Cached {self.address:#x}, {self.bytes} bytes{'' if self.cache else ', given up'}>"
@@ -59,17 +58,20 @@ class Cached:
 class Cache:
     """A cache of a domain, of which it is one client of the worker: Domain.cache makes it. Up to 32 frames it gives out of its own
     magazines, and takes back into a ring of its own, where a range waits for a flush. It calls `invalidate` for a flush where 255 wait
-    and where it finds no space; that answers whether the IOTLB was invalidated, and what it raises is raised. At the end of a with, or
-    by close(), it ends with all that it gave."""
+    and where it finds no space; that answers whether the IOTLB was invalidated, and what it raises is raised. `invalidate` makes no
+    flush: there flush() is refused by FLIGHTS_FULL. At the end of a with, or by close(), or with its domain, a cache ends with all that
+    it gave; then map() is refused by NO_CACHE."""
 
     def __init__(self, domain: "Domain", invalidate: Callable[[], object], worker: int, sac: bool) -> None:
         in_64_bits(worker)
         self.domain, self.worker, self.invalidate = domain, worker, invalidate
-        self._calls, self._granule = domain._calls, domain.granule
+        self._calls = domain._calls
+        self._granule: int = domain.granule
         self._words = (ctypes.c_uint64 * ((self._calls["cache_size"]() + 7) // 8))()
         self._at = ctypes.addressof(self._words)
         self._clean = 0  # at least so many of the oldest that wait were covered by a flush
         self._owed: List[int] = []  # what a with couldn't give up
+        self._has_raised = False  # invalidate, in the last flush
         self._is_wanted = False  # another cache found no space: what nobody uses goes back at the next call
         self._calls["cache_init"](self._at)
         made = self._calls["cache_make"](domain._at, self._at, worker, 1 if sac else 0)
@@ -105,10 +107,11 @@ class Cache:
         self._give_up(address // self._granule)
 
     def flush(self) -> None:
-        """A flush of the domain now, and then what it owes. Refused by SINK_FAULT where the invalidation failed, and by FLIGHTS_FULL and
-        WORN."""
-        if not self._flush_now():
-            raise Refused(Refusal.SINK_FAULT)
+        """A flush of the domain now, and then what it owes. Refused by SINK_FAULT if the invalidation failed, by FLIGHTS_FULL if 32 are in
+        flight or in an `invalidate` of this thread, and by WORN."""
+        refused = self._flush_now()
+        if refused:
+            raise Refused(refused)
         self.domain._pay()
 
     def give_back(self) -> None:
@@ -139,7 +142,7 @@ class Cache:
         if self._calls["cache_end"](self.domain._at, self._at).refused == Refusal.NO_CACHE:
             return
         self.domain._caches.remove(self)
-        self.domain._close(self.worker, self.number, self._flush_now)
+        self.domain._close(self.worker, self.number, self._flush_goes_well)
 
     def __enter__(self) -> "Cache":
         return self
@@ -160,14 +163,27 @@ class Cache:
             raise Refused(told.refused)
         return told
 
-    def _flush_now(self) -> bool:
-        number = self.domain.begin()
+    def _flush_now(self) -> int:
+        """A flush: 0, or why there was none."""
+        domain, me = self.domain, threading.get_ident()
+        if me in domain._flushing:
+            return Refusal.FLIGHTS_FULL
+        begun = self._calls["begin"](domain._at)
+        if begun.refused:
+            return int(begun.refused)
         went_well = False
+        self._has_raised = True
+        domain._flushing.add(me)
         try:
             went_well = bool(self.invalidate())
+            self._has_raised = False
         finally:
-            self.domain.end(number, went_well)
-        return went_well
+            domain._flushing.discard(me)
+            domain.end(begun.number, went_well)
+        return 0 if went_well else Refusal.SINK_FAULT
+
+    def _flush_goes_well(self) -> bool:
+        return self._flush_now() == 0
 
     def _settle(self) -> int:
         count: int = self._calls["cache_settle"](self._at, self.domain.flushes().newest).number
@@ -175,7 +191,7 @@ class Cache:
         return count
 
     def _flush_for(self, waiting: int) -> int:
-        if waiting and self._flush_now():
+        if waiting and self._flush_goes_well():
             self._clean = waiting
         return self._settle()
 
@@ -189,7 +205,7 @@ class Cache:
                 continue
             # one flush isn't enough where an older one is in flight
             flushes += 1
-            if gone.refused != Refusal.RING_FULL or flushes > 4 or not self._flush_now():
+            if gone.refused != Refusal.RING_FULL or flushes > 4 or not self._flush_goes_well():
                 break
         return spilled
 
@@ -205,7 +221,10 @@ class Cache:
         return self._settle() > 0
 
     def _unmap(self, lo: int) -> int:
-        refused: int = self._calls["cache_unmap"](self._at, lo, self.domain.flushes().start).refused
+        flushes = self._calls["flushes_of"](self.domain._at)
+        if flushes.refused:
+            return Refusal.NO_CACHE  # it has ended with its domain
+        refused: int = self._calls["cache_unmap"](self._at, lo, flushes.start).refused
         return refused
 
     def _answer(self) -> None:
@@ -214,6 +233,12 @@ class Cache:
             self._give_back()
 
     def _give_up(self, lo: int) -> None:
+        refused = self._try_to_give_up(lo)
+        if refused:
+            raise Refused(refused)
+
+    def _try_to_give_up(self, lo: int) -> int:
+        """0, or the refusal; what is raised, invalidate has raised."""
         self._answer()
         refused = self._unmap(lo)
         if refused == Refusal.NO_ORDER:
@@ -221,21 +246,29 @@ class Cache:
             while True:
                 refused = self._calls["cache_unmap_by"](self.domain._at, self._at, lo).refused
                 flushes += 1
-                if refused != Refusal.RING_FULL or flushes > 4 or not self._flush_now():
+                if refused != Refusal.RING_FULL or flushes > 4 or not self._flush_goes_well():
                     break
         elif refused == Refusal.RING_FULL and self._make_room():
             refused = self._unmap(lo)
-        if refused:
-            raise Refused(refused)
+        return refused
+
+    def _give_up_or_owe(self, lo: int) -> bool:
+        """Whether the range is given up; else it is owed, also if invalidate raises."""
+        self._has_raised = False
+        try:
+            refused = self._try_to_give_up(lo)
+        except BaseException:
+            if self._has_raised:
+                self._owed.append(lo)
+            raise
+        if refused not in _GONE:
+            self._owed.append(lo)
+        return refused in _GONE
 
     def _pay(self) -> None:
-        owed, self._owed = self._owed, []
-        for lo in owed:
-            try:
-                self._give_up(lo)
-            except Refused as refused:
-                if refused.refusal == Refusal.RING_FULL:
-                    self._owed.append(lo)
+        """Gives up what is owed, up to the first that is refused: behind a flush that failed no other is made."""
+        while self._owed and self._give_up_or_owe(self._owed.pop()):
+            pass
 
     def _alloc(self, frames: int, limit: int) -> Any:
         range_ = self._calls["cache_alloc"](self._at, frames, limit)
@@ -267,7 +300,7 @@ class Cache:
                 tries = 1  # what waited here may do
                 continue
             self._give_back()
-            if self.domain.counts().ring and self._flush_now():
+            if self.domain.counts().ring and self._flush_goes_well():
                 for worker in range(self.domain._workers):
                     self.domain.drain(worker, worker)
             tries = 2

@@ -2,7 +2,7 @@
 import ctypes
 import enum
 from types import TracebackType
-from typing import Any, Callable, List, NamedTuple, Optional, Tuple, Type
+from typing import Any, Callable, List, NamedTuple, Optional, Set, Tuple, Type
 
 from .cache import Cache
 from .library import NO_LIMIT, NO_MASK, Listed, Refused, _Struct, library, in_64_bits
@@ -198,6 +198,7 @@ class Domain:
         # what a with couldn't give up: a client's mapping, or, without an address, a client
         self._owed: List[Tuple[int, int, Optional[int]]] = []
         self._caches: List[Cache] = []
+        self._flushing: Set[int] = set()  # the threads that are in the invalidate of a cache
         self._calls["domain_init"](self._at)
         if depot is None:
             refused = self._calls["domain_make_granule"](self._at, start, last, workers, granule)
@@ -248,8 +249,13 @@ class Domain:
             left = self._calls["close_one"](self._at, worker, client)
             if left.refused == _RING_FULL:
                 flushes += 1
-                if flushes > 4 or not flush():
-                    self._owed.append((worker, client, None))
+                goes_on = False
+                try:
+                    goes_on = flushes <= 4 and flush()
+                finally:
+                    if not goes_on:
+                        self._owed.append((worker, client, None))
+                if not goes_on:
                     return
             elif left.refused or left.len == 0:
                 return
@@ -257,7 +263,10 @@ class Domain:
                 flushes = 0
 
     def close(self) -> None:
-        """Ends the domain, and gives back all memory that it took."""
+        """Ends the domain and its caches, and gives back all memory that they took."""
+        for cache in self._caches:
+            self._calls["cache_clear"](cache._at)
+        self._caches.clear()
         self._calls["domain_clear"](self._at)
 
     def __enter__(self) -> "Domain":

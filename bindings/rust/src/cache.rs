@@ -24,11 +24,21 @@ const EXCHANGED: u64 = 64;
 #[repr(align(128))]
 struct Apart(AtomicU64);
 
+/// A number that no other thread has meanwhile. Against `thread::current`, which takes memory, and isn't there at a thread's end.
+fn this_thread() -> usize {
+    thread_local! {
+        static PLACE: u8 = const { 0 };
+    }
+    PLACE.with(|place| place as *const u8 as usize)
+}
+
 /// What is done under the lock.
 struct Held {
     domain: Domain,
     /// Of each cache that is open, whether it is to give back what nobody uses.
     wanted: Vec<Arc<AtomicBool>>,
+    /// The threads that flush, as [`this_thread`] has them: each is in `invalidate`.
+    flushing: Vec<usize>,
 }
 
 /// A domain that threads share, each by a [`Cache`] of its own.
@@ -86,7 +96,8 @@ pub struct CacheCounts {
 impl Shared {
     /// Shares the domain. `invalidate` invalidates the IOTLB of the whole domain, and answers whether it did; a panic in it is a flush that
     /// failed. It is called without a lock by whichever thread flushes: one whose cache has 255 ranges that wait, one that finds no space,
-    /// and by [`Shared::flush`]; by several at once.
+    /// and by [`Shared::flush`]; by several at once. It makes no flush itself: there [`Shared::flush`] is refused by `FlightsFull`, and a
+    /// call of a cache that needs a flush by `RingFull` or `NoSpace`.
     pub fn new(domain: Domain, invalidate: impl Fn() -> bool + Send + Sync + 'static) -> Shared {
         let flushes = domain.flushes();
         Shared {
@@ -95,7 +106,7 @@ impl Shared {
             begun: Apart(AtomicU64::new(flushes.start)),
             ended: Apart(AtomicU64::new(flushes.newest)),
             invalidate: Box::new(invalidate),
-            held: Mutex::new(Held { domain, wanted: Vec::new() }),
+            held: Mutex::new(Held { domain, wanted: Vec::new(), flushing: Vec::new() }),
         }
     }
 
@@ -134,7 +145,7 @@ impl Shared {
     }
 
     /// A flush of the whole domain now, and then what a cache couldn't give up when it was dropped. Waits where 32 are in flight. Refused by
-    /// `SinkFault` where the invalidation failed, and by `Worn`.
+    /// `SinkFault` where the invalidation failed, by `FlightsFull` in an `invalidate` of this thread, and by `Worn`.
     pub fn flush(&self) -> Result<(), Refusal> {
         self.flush_now()?;
         self.lock().domain.pay();
@@ -149,17 +160,24 @@ impl Shared {
         }
         impl Drop for Begun<'_> {
             fn drop(&mut self) {
-                let held = self.shared.lock();
+                let mut held = self.shared.lock();
+                let me = this_thread();
+                held.flushing.retain(|other| *other != me);
                 let _ = held.domain.end(self.number, self.went_well);
                 // G3: `newest` and not `finish`, which would wait for flushes in flight that began before. Of one that failed it's an
                 // older number, which frees nothing.
                 self.shared.ended.0.store(held.domain.flushes().newest, Ordering::Release);
             }
         }
+        let me = this_thread();
         let number = loop {
-            let held = self.lock();
+            let mut held = self.lock();
+            if held.flushing.contains(&me) {
+                return Err(Refusal::FlightsFull);
+            }
             match held.domain.begin() {
                 Ok(number) => {
+                    held.flushing.push(me);
                     // G1: in this hold, so that it rises
                     self.begun.0.store(number, Ordering::SeqCst);
                     break number;
@@ -506,6 +524,31 @@ impl<'s> Cache<'s> {
         self.give_up(lo)
     }
 
+    /// Gives up a range that is dropped. The cache owes it where that is refused by `RingFull`, and where `invalidate` panics. While the
+    /// thread unwinds no flush is made, in which a second panic would end the program.
+    #[cold]
+    fn give_up_or_owe(&self, lo: u64) {
+        struct Owes<'o> {
+            owed: &'o RefCell<Vec<u64>>,
+            lo: u64,
+        }
+        impl Drop for Owes<'_> {
+            fn drop(&mut self) {
+                self.owed.borrow_mut().push(self.lo);
+            }
+        }
+        let owes = Owes { owed: &self.owed, lo };
+        let range = if thread::panicking() {
+            self.unmap_here(lo)
+        } else {
+            self.give_up_at(lo)
+        };
+        let is_held = range.refused == Refusal::RingFull.number() || range.refused == Refusal::NoOrder.number();
+        if !is_held {
+            mem::forget(owes);
+        }
+    }
+
     /// Does what others have called for.
     fn answer(&self) {
         if self.is_called() && self.wanted.swap(false, Ordering::AcqRel) {
@@ -513,12 +556,20 @@ impl<'s> Cache<'s> {
         }
     }
 
+    /// Gives up what is owed, the newest first, up to the first that is refused: behind a flush that failed no other is made. A range
+    /// leaves the list once it is given up, so a panic of `invalidate` loses none.
     #[cold]
     fn pay(&self) {
-        let owed = mem::take(&mut *self.owed.borrow_mut());
-        let left = owed.into_iter().filter(|lo| self.give_up_at(*lo).refused == Refusal::RingFull.number());
-        let left: Vec<u64> = left.collect();
-        self.owed.borrow_mut().extend(left);
+        while let Some(lo) = self.next_owed() {
+            if self.give_up_at(lo).refused == Refusal::RingFull.number() {
+                return;
+            }
+            self.owed.borrow_mut().retain(|other| *other != lo);
+        }
+    }
+
+    fn next_owed(&self) -> Option<u64> {
+        self.owed.borrow().last().copied()
     }
 
     /// A range of the magazines, once what is clean is in them.
@@ -582,13 +633,26 @@ impl<'s> Cache<'s> {
         range
     }
 
-    /// Ends the cache, and closes its client as far as there is room in the domain's ring; the rest the domain owes.
+    /// Ends the cache, and closes its client as far as there is room in the domain's ring; the rest the domain owes, and all of it where
+    /// `invalidate` panics. While the thread unwinds no flush is made.
     fn close(&mut self) {
+        struct Owes<'o> {
+            shared: &'o Shared,
+            worker: u64,
+            client: u64,
+        }
+        impl Drop for Owes<'_> {
+            fn drop(&mut self) {
+                self.shared.lock().domain.close_or_owe(self.worker, self.client);
+            }
+        }
         let mut held = self.shared.lock();
         // SAFETY: both rooms were made ready, and the lock is held (G4).
         unsafe { sys::iova_cache_end(held.domain.at(), self.at()) };
         held.wanted.retain(|other| !Arc::ptr_eq(other, &self.wanted));
         drop(held);
+        let owes = Owes { shared: self.shared, worker: self.worker, client: self.client };
+        let may_flush = !thread::panicking();
         let mut flushes = 0;
         loop {
             let held = self.shared.lock();
@@ -605,9 +669,9 @@ impl<'s> Cache<'s> {
             flushes = if gone != 0 { 0 } else { flushes + 1 };
             match left {
                 Ok(true) => {}
-                Err(Refusal::RingFull) if flushes <= 4 && self.shared.flush_now().is_ok() => {}
-                Err(Refusal::RingFull) => return self.shared.lock().domain.close_or_owe(self.worker, self.client),
-                _ => return,
+                Err(Refusal::RingFull) if may_flush && flushes <= 4 && self.shared.flush_now().is_ok() => {}
+                Err(Refusal::RingFull) => return drop(owes),
+                _ => return mem::forget(owes),
             }
         }
     }
@@ -630,7 +694,7 @@ impl fmt::Debug for Cache<'_> {
 /// Bytes in a row of a [`Cache`] that a device may use, as long as the value lives. Dropped, they are given up, and wait in the cache for a
 /// flush that begins later. So drop it once the device no longer uses them and their mapping is cleared.
 ///
-/// Where 255 wait and no flush goes well, the cache [owes](Cache::owed) it, and does it at a later call.
+/// Where 255 wait and no flush goes well, or `invalidate` panics, the cache [owes](Cache::owed) it, and does it at a later call.
 #[must_use = "a range that is dropped is given up at once"]
 pub struct Cached<'c> {
     cache: &'c Cache<'c>,
@@ -656,7 +720,8 @@ impl Cached<'_> {
         Frames { lo: self.lo, len: self.len }
     }
 
-    /// Gives it up, and says why that is refused, with the range: by `RingFull` where 255 wait and no flush goes well.
+    /// Gives it up, and says why that is refused, with the range: by `RingFull` where 255 wait and no flush goes well. Where `invalidate`
+    /// panics, the cache [owes](Cache::owed) it.
     pub fn unmap(self) -> Result<(), (Refusal, Self)> {
         match self.cache.give_up_at(self.lo).refused {
             0 => {
@@ -678,8 +743,8 @@ impl Cached<'_> {
 impl Drop for Cached<'_> {
     #[inline]
     fn drop(&mut self) {
-        if self.cache.give_up_at(self.lo).refused == Refusal::RingFull.number() {
-            self.cache.owed.borrow_mut().push(self.lo);
+        if self.cache.is_called() || self.cache.unmap_here(self.lo).refused != 0 {
+            self.cache.give_up_or_owe(self.lo);
         }
     }
 }

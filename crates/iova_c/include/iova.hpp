@@ -32,6 +32,10 @@
 #include <utility>
 #include <vector>
 
+#if defined(__GLIBCXX__)
+#include <cxxabi.h> /* abi::__forced_unwind, by which a thread ends */
+#endif
+
 #include "iova.h"
 #include "iova_shared.h"
 
@@ -488,8 +492,10 @@ class client {
 class shared {
   public:
     /* Takes a domain over that has no clients. `invalidate` invalidates the whole domain, and answers whether it did. It is called
-     * without a lock by whichever thread flushes, and by several at once, and calls nothing of this object or its caches. Where it
-     * throws, the flush has failed. Refused by no_memory. */
+     * without a lock by whichever thread flushes, and by several at once, and calls nothing of this object or its caches: a flush there
+     * is refused by flights_full. Where it throws, the flush has failed. A thread that is cancelled in it goes on until the flush has
+     * ended; one that ends itself, by pthread_exit, ends the flush as failed, in a call that isn't noexcept. Refused by no_memory. In a
+     * forked child each call of a cache is refused by no_cache, and each of this object by no_domain. */
     shared(domain domain, std::function<bool()> invalidate)
         : its_(std::make_unique<state>(std::move(domain), std::move(invalidate))) {
         std::error_code error;
@@ -499,6 +505,8 @@ class shared {
 
     /* What `call` answers of the domain, with the lock held: reserve, counts and their kin, and no flush. */
     template <class Call> auto locked(Call &&call) {
+        if (its_->room.is_forked)
+            detail::refuse(make_error_code(refusal::no_domain), "iova::shared::locked");
         struct held {
             ::pthread_mutex_t *lock;
             explicit held(::pthread_mutex_t *its) : lock(its) { ::pthread_mutex_lock(lock); }
@@ -548,6 +556,10 @@ class shared {
         static int invalidates(void *with) {
             try {
                 return static_cast<state *>(with)->invalidate();
+#if defined(_CXXABI_FORCED_H)
+            } catch (abi::__forced_unwind &) {
+                throw; /* the thread ends: iova_shared_flush ends the flush */
+#endif
             } catch (...) {
                 return 0;
             }
@@ -571,12 +583,12 @@ struct cache_state {
         }
     }
 
+    /* up to the first that is refused: behind a flush that failed no other is made */
     void pay() noexcept {
-        std::size_t kept = 0;
-        for (std::size_t at = 0; at < owes.size(); at++)
-            if (::iova_shared_unmap_bytes(&room, owes[at]).refused == IOVA_RING_FULL)
-                owes[kept++] = owes[at];
-        owes.resize(kept);
+        std::size_t paid = 0;
+        while (paid < owes.size() && ::iova_shared_unmap_bytes(&room, owes[paid]).refused != IOVA_RING_FULL)
+            paid++;
+        owes.erase(owes.begin(), owes.begin() + static_cast<std::ptrdiff_t>(paid));
     }
 };
 
@@ -723,7 +735,8 @@ class cache {
     void end() noexcept {
         if (!its_)
             return;
-        if (::iova_shared_close(&its_->room))
+        const std::uint64_t refused = ::iova_shared_close(&its_->room);
+        if (refused && refused != IOVA_NO_CACHE) /* which a forked child is told */
             shared_->owes(its_->room.worker, its_->room.client);
         its_.reset();
     }

@@ -51,6 +51,10 @@
 #include <sys/times.h>
 #include <sys/un.h>
 #include <unistd.h>
+#ifdef IOVA_H /* the caches at the end */
+#include <pthread.h>
+#include <stdlib.h>
+#endif
 
 #ifdef __cplusplus
 extern "C" {
@@ -72,7 +76,8 @@ enum iovad_error {
     IOVAD_NOT_ASKED = 107, /* no such request is the next whose answer comes */
     IOVAD_TIMED_OUT = 108, /* no connection, or no answer, within the time: errno is ETIMEDOUT */
     IOVAD_STRICT = 109,    /* caches: the domain is strict, and a cache isn't for it */
-    IOVAD_NO_ROOM = 110    /* caches: the list is shorter than what is lost */
+    IOVAD_NO_ROOM = 110,   /* caches: the list is shorter than what is lost */
+    IOVAD_FORKED = 111     /* caches: this process is a forked child, and the cache is its parent's */
 };
 
 /* The answer to `hello`: the client's number. */
@@ -129,7 +134,7 @@ static inline const char *iovad_error_name(uint64_t error) {
         "TooMany",   "BadTrace", "NoDomain",    "Twice",       "BadProfile",
     };
     static const char *const own[] = {"BadPath", "NoDaemon", "Broken", "Ended",
-                                      "Malformed", "Full", "Busy", "NotAsked", "TimedOut", "Strict", "NoRoom"};
+                                      "Malformed", "Full", "Busy", "NotAsked", "TimedOut", "Strict", "NoRoom", "Forked"};
     if (error < sizeof refusals / sizeof refusals[0])
         return refusals[error];
     if (error >= IOVAD_BAD_PATH && error - IOVAD_BAD_PATH < sizeof own / sizeof own[0])
@@ -696,24 +701,42 @@ static inline uint64_t iovad_bye(iovad_session *session) {
  * has is lost with it. A cache isn't for a domain that is strict, whose frees are to be flushed when they are
  * answered: where that is seen iovad_cache_open is refused by IOVAD_STRICT.
  *
- * A lost session is told by each call, from the first one on that finds it lost: that is one that asks the daemon. The
- * daemon gives to others what the client had, once its peer was told of it: iovad_cache_reopen begins a new client,
- * and lists what the user held.
+ * Each call answers the error of a lost session, from the call on that finds it lost: one that asks the daemon, or one
+ * that looks at the socket. A call looks if 64 calls have passed since the last look. The daemon gives the client's
+ * ranges to others once its peer has answered: iovad_cache_reopen begins a new client, and lists what the user held. The
+ * bound that remains: between the end of a session and the next look at most 64 calls are answered from the cache, and
+ * others may hold these frames too.
+ *
+ * A daemon with --idle SECONDS ends a session that sends nothing for so long, and a cache may send nothing for long.
+ * iovad_cache_keep_alive(&cache, SECONDS) makes the looks send `stat` often enough. A program without calls can't stay
+ * alive so: its timer calls iovad_cache_look, at least once in a third of SECONDS.
+ *
+ * A cache stays with the process that opened it. In a child made by fork(2) each call answers IOVAD_FORKED, and
+ * iovad_cache_close ends the child's copy alone; the child opens a cache of its own. vfork, _Fork and a clone(2) of the
+ * program's own run no handler of pthread_atfork, so there the program itself must not use the cache. A cache takes
+ * memory by malloc, and may be moved as bytes between calls.
  *
  * What a range that is freed waits for: `begun` counts the flushes that were asked for, and is its number; `ended` is
  * that of the last one that was answered by `flushed`. A flush begins in the daemon behind its request, so one of a
  * greater number began after the range was freed here. */
 
-/* A flush is asked for, and not waited for, where so many ranges were freed since the last one that was asked for. */
+/* A flush is asked for, and not waited for, at the first look behind so many frees since the last such request. */
 #define IOVAD_CACHE_AHEAD 128
+
+/* The calls of a cache between two looks at its socket, at most. */
+#define IOVAD_CACHE_LOOKS 64
 
 /* What is in it is for the functions below alone, but that iovad_within may be called on `session`. */
 typedef struct iovad_cache {
     iovad_session session;
     iova_cache ranges;
+    struct iovad_own_watch *watch;
     uint64_t begun, ended, since, clean, domain, sac;
     int is_flushing; /* the answer to the last flush is the next one to come */
     int milliseconds;
+    int idle;  /* the milliseconds of the daemon's --idle; 0: none, or not known */
+    int calls; /* between the last look and the next one, where `idle` is known */
+    int64_t looked, asked; /* when: the last look, and the last `stat` for it */
     char path[sizeof(((struct sockaddr_un *)0)->sun_path)];
 } iovad_cache;
 
@@ -730,7 +753,108 @@ typedef struct iovad_cached {
 #define IOVAD_OWN_COLD static inline
 #endif
 
-enum { IOVAD_OWN_ORDERS = 6, IOVAD_OWN_MAGAZINE = 256, IOVAD_OWN_RING = 255, IOVAD_OWN_EXCHANGED = 64 };
+enum { IOVAD_OWN_ORDERS = 6, IOVAD_OWN_MAGAZINE = 256, IOVAD_OWN_RING = 255, IOVAD_OWN_EXCHANGED = 64,
+       IOVAD_OWN_FRAMES = 32 };
+
+/* What a call subtracts from `quick`, a free one less; and the value by which no call is quick. */
+enum { IOVAD_OWN_CALL = 1 << 16, IOVAD_OWN_NONE = -IOVAD_OWN_CALL };
+
+#ifdef POLLRDHUP
+#define IOVAD_OWN_HANGUP POLLRDHUP
+#else
+#define IOVAD_OWN_HANGUP 0x2000 /* strict C11 has no name for it; the end of both directions is seen without it */
+#endif
+
+/* What the quick calls of an open cache look at. It lies in memory of its own, so that a forked child finds it wherever
+ * the cache lies, and also where the cache was never closed. */
+struct iovad_own_watch {
+    char apart[64]; /* no other number lies in the processor's line with `quick` */
+    int64_t quick;  /* the calls until the next look by IOVAD_OWN_CALL, and below that how many of them were frees */
+    int is_forked;  /* this process is a child of the cache's */
+    int fd;         /* the session's, which the child closes */
+    struct iovad_own_watches *in;
+    struct iovad_own_watch *next, **at;
+    char behind[64];
+};
+
+/* The watches of the caches that this file of the program opened. */
+struct iovad_own_watches {
+    pthread_mutex_t lock;
+    struct iovad_own_watch *first;
+    int has_handlers;
+};
+
+static struct iovad_own_watches iovad_own_watches __attribute__((unused)) = {PTHREAD_MUTEX_INITIALIZER, NULL, 0};
+
+/* The watch of a cache that isn't open: no call is quick. */
+static struct iovad_own_watch iovad_own_closed __attribute__((unused));
+
+IOVAD_OWN_COLD void iovad_own_fork_begins(void) { pthread_mutex_lock(&iovad_own_watches.lock); }
+
+IOVAD_OWN_COLD void iovad_own_fork_ended(void) { pthread_mutex_unlock(&iovad_own_watches.lock); }
+
+/* In the child: no cache that is open is its own. It closes its copies of the connections, so that the daemon sees the
+ * end of the parent. */
+IOVAD_OWN_COLD void iovad_own_is_child(void) {
+    struct iovad_own_watch *watch;
+    for (watch = iovad_own_watches.first; watch; watch = watch->next) {
+        if (watch->fd >= 0)
+            close(watch->fd);
+        watch->fd = -1;
+        watch->is_forked = 1;
+        watch->quick = IOVAD_OWN_NONE;
+    }
+    pthread_mutex_unlock(&iovad_own_watches.lock);
+}
+
+/* A watch for a cache that is opened; the closed one without memory. */
+IOVAD_OWN_COLD struct iovad_own_watch *iovad_own_begin_watch(void) {
+    struct iovad_own_watches *all = &iovad_own_watches;
+    struct iovad_own_watch *watch = (struct iovad_own_watch *)malloc(sizeof *watch);
+    int is_watched;
+    if (!watch)
+        return &iovad_own_closed;
+    watch->quick = IOVAD_OWN_NONE;
+    watch->is_forked = 0;
+    watch->fd = -1;
+    watch->in = all;
+    pthread_mutex_lock(&all->lock);
+    if (!all->has_handlers)
+        all->has_handlers = !pthread_atfork(iovad_own_fork_begins, iovad_own_fork_ended, iovad_own_is_child);
+    is_watched = all->has_handlers;
+    if (is_watched) {
+        watch->next = all->first;
+        watch->at = &all->first;
+        if (watch->next)
+            watch->next->at = &watch->next;
+        all->first = watch;
+    }
+    pthread_mutex_unlock(&all->lock);
+    if (is_watched)
+        return watch;
+    free(watch);
+    return &iovad_own_closed;
+}
+
+/* The descriptor that a child closes. */
+IOVAD_OWN_COLD void iovad_own_watch_fd(struct iovad_own_watch *watch, int fd) {
+    pthread_mutex_lock(&watch->in->lock);
+    watch->fd = fd;
+    pthread_mutex_unlock(&watch->in->lock);
+}
+
+IOVAD_OWN_COLD void iovad_own_end_watch(iovad_cache *cache) {
+    struct iovad_own_watch *watch = cache->watch;
+    cache->watch = &iovad_own_closed;
+    if (!watch->in)
+        return; /* a closed one, maybe that of another file */
+    pthread_mutex_lock(&watch->in->lock);
+    *watch->at = watch->next;
+    if (watch->next)
+        watch->next->at = watch->at;
+    pthread_mutex_unlock(&watch->in->lock);
+    free(watch);
+}
 
 static inline iovad_range iovad_own_range(uint64_t error, uint64_t lo, uint64_t len) {
     iovad_range range;
@@ -769,6 +893,66 @@ static inline uint64_t iovad_own_settle(iovad_cache *cache) {
     uint64_t count = iova_cache_settle(&cache->ranges, cache->ended).number;
     cache->clean = count < cache->clean ? cache->clean - count : 0;
     return count;
+}
+
+/* A look keeps the session alive where the daemon's --idle is known: by a `stat` that is waited for, once a third of that
+ * time has passed. Calls that come slowly look sooner, so that at most a sixth of it lies between two looks. */
+IOVAD_OWN_COLD void iovad_own_keep_alive(iovad_cache *cache) {
+    int64_t now = iovad_own_now(), passed = now - cache->looked, most = cache->idle / 6;
+    cache->looked = now;
+    if (passed > most)
+        cache->calls = (int)(cache->calls * most / passed);
+    else if (cache->calls < IOVAD_CACHE_LOOKS)
+        cache->calls *= 2;
+    if (cache->calls < 1)
+        cache->calls = 1;
+    if (now - cache->asked > cache->idle / 3) {
+        iovad_own_flushed(cache);
+        iovad_stat(&cache->session);
+        cache->asked = now;
+    }
+}
+
+/* Looks at the socket: an end that the daemon has made loses the session. */
+IOVAD_OWN_COLD void iovad_own_look(iovad_cache *cache) {
+    struct pollfd polled = {cache->session.fd, IOVAD_OWN_HANGUP, 0};
+    if (poll(&polled, 1, 0) > 0)
+        iovad_own_lose(&cache->session, IOVAD_ENDED);
+    else if (cache->idle)
+        iovad_own_keep_alive(cache);
+    cache->watch->quick = (int64_t)cache->calls * IOVAD_OWN_CALL;
+}
+
+/* Begins a call that isn't quick: counts the frees that were, asks for a flush behind enough of them, and looks where a
+ * look is due. Answers the error by which the session is lost. */
+IOVAD_OWN_COLD uint64_t iovad_own_begin(iovad_cache *cache) {
+    struct iovad_own_watch *watch = cache->watch;
+    uint64_t frees = (uint64_t)watch->quick % IOVAD_OWN_CALL;
+    cache->since += frees;
+    watch->quick -= (int64_t)frees;
+    if (watch->is_forked) {
+        cache->session.fd = -1; /* which the child has closed */
+        iovad_own_lose(&cache->session, IOVAD_FORKED);
+    }
+    if (!cache->session.lost && watch->quick < 0)
+        iovad_own_look(cache);
+    if (!cache->session.lost && cache->since >= IOVAD_CACHE_AHEAD)
+        iovad_own_ask_flush(cache);
+    if (cache->session.lost)
+        watch->quick = IOVAD_OWN_NONE;
+    return cache->session.lost;
+}
+
+/* Ends it: no call is quick in a session that is lost. Answers the error. */
+static inline uint64_t iovad_own_end(iovad_cache *cache) {
+    if (cache->session.lost)
+        cache->watch->quick = IOVAD_OWN_NONE;
+    return cache->session.lost;
+}
+
+/* The same of a call that answers a range: the loss of the session stands for each other refusal. */
+static inline iovad_range iovad_own_ended(iovad_cache *cache, iovad_range range) {
+    return iovad_own_end(cache) && range.error ? iovad_own_range(cache->session.lost, 0, 0) : range;
 }
 
 /* A flush of all that waits here, which is waited for. */
@@ -876,20 +1060,47 @@ IOVAD_OWN_COLD iovad_range iovad_own_alloc_once(iovad_cache *cache, uint64_t fra
     return iovad_own_range(range.refused, range.lo, range.len);
 }
 
-IOVAD_OWN_COLD iovad_range iovad_own_cache_alloc(iovad_cache *cache, uint64_t frames, uint64_t limit) {
-    iovad_range range = iovad_own_range(cache->session.lost, 0, 0);
+/* All that was given back to the daemon, by whomever, is to be had again: a flush, where its rings have something. */
+IOVAD_OWN_COLD void iovad_own_recover(iovad_cache *cache) {
+    iovad_counts counts;
+    iovad_own_flushed(cache);
+    counts = iovad_stat(&cache->session);
+    if (counts.error || counts.ring)
+        iovad_own_flush(cache);
+}
+
+/* What waits here is to be had again, a part of it. Answers how many ranges. */
+IOVAD_OWN_COLD uint64_t iovad_own_recover_here(iovad_cache *cache) {
+    uint64_t settled = iovad_own_settle(cache); /* the answer to a flush may have come */
+    if (settled || !iova_cache_counts_of(&cache->ranges).waiting || iovad_own_flush(cache))
+        return settled;
+    return iovad_own_settle(cache);
+}
+
+/* The long way of a request, behind a look. */
+IOVAD_OWN_COLD iovad_range iovad_own_request_range(iovad_cache *cache, uint64_t frames, uint64_t limit) {
+    iovad_range range = iovad_own_range(0, 0, 0);
     int tries;
-    for (tries = 0; !cache->session.lost; tries++) {
+    for (tries = 0;; tries++) {
         range = iovad_own_alloc_once(cache, frames, limit, tries ? 1 : IOVAD_OWN_EXCHANGED);
         if ((range.error != IOVA_NO_SPACE && range.error != IOVA_HOLDINGS_FULL) || tries == 2)
             break;
-        if (tries == 0 && !iovad_own_flush(cache) && iovad_own_settle(cache))
+        if (tries == 0 && iovad_own_recover_here(cache))
             continue; /* what waited here may do */
         iovad_own_give_back(cache);
-        iovad_own_flush(cache); /* drains what waits in the daemon's rings */
+        iovad_own_recover(cache);
         tries = 1;
     }
-    return range;
+    return iovad_own_ended(cache, range);
+}
+
+IOVAD_OWN_COLD iovad_range iovad_own_cache_alloc(iovad_cache *cache, uint64_t frames, uint64_t limit) {
+    iova_packed_range range;
+    uint64_t error = iovad_own_begin(cache);
+    if (error)
+        return iovad_own_range(error, 0, 0);
+    range = iova_cache_alloc_packed(&cache->ranges, frames, limit); /* a look was due */
+    return range.len ? iovad_own_range(0, range.lo, range.len) : iovad_own_request_range(cache, frames, limit);
 }
 
 /* Makes room in the ring, which is full. Answers 0, or the error. */
@@ -927,23 +1138,32 @@ IOVAD_OWN_COLD iovad_range iovad_own_free_by(iovad_cache *cache, uint64_t lo) {
     return range;
 }
 
-IOVAD_OWN_COLD iovad_range iovad_own_cache_free(iovad_cache *cache, uint64_t lo) {
-    iova_range range;
-    uint64_t error = cache->session.lost;
-    if (error)
-        return iovad_own_range(error, 0, 0);
-    range = iova_cache_unmap(&cache->ranges, lo, cache->begun);
+IOVAD_OWN_COLD iovad_range iovad_own_free_here(iovad_cache *cache, uint64_t lo) {
+    iova_range range = iova_cache_unmap(&cache->ranges, lo, cache->begun);
     if (range.refused == IOVA_NO_ORDER)
         return iovad_own_free_by(cache, lo);
     if (range.refused == IOVA_RING_FULL) {
-        error = iovad_own_make_room(cache);
+        uint64_t error = iovad_own_make_room(cache);
         if (error)
             return iovad_own_range(error, 0, 0);
         range = iova_cache_unmap(&cache->ranges, lo, cache->begun);
     }
-    if (!range.refused && ++cache->since >= IOVAD_CACHE_AHEAD)
-        iovad_own_ask_flush(cache); /* an error is told by the next call */
     return iovad_own_range(range.refused, range.lo, range.len);
+}
+
+IOVAD_OWN_COLD iovad_range iovad_own_cache_free(iovad_cache *cache, uint64_t lo) {
+    iova_packed_range packed;
+    iovad_range range;
+    uint64_t error = iovad_own_begin(cache);
+    if (error)
+        return iovad_own_range(error, 0, 0);
+    packed = iova_cache_unmap_packed(&cache->ranges, lo, cache->begun); /* a look was due */
+    if (packed.len)
+        return iovad_own_range(0, packed.lo, packed.len);
+    range = iovad_own_free_here(cache, lo);
+    if ((range.error || range.len > IOVAD_OWN_FRAMES) && cache->since)
+        cache->since--; /* it was counted as one that waits here */
+    return iovad_own_ended(cache, range);
 }
 
 /* Connects, opens a client, and sees whether the domain is strict: there a free is answered `freed`. `*kept` is a range
@@ -972,6 +1192,8 @@ static inline iovad_opened iovad_own_cache_connect(iovad_cache *cache, iovad_ran
     }
     if (opened.error)
         opened.number = 0;
+    else
+        iovad_own_watch_fd(cache->watch, cache->session.fd);
     return opened;
 }
 
@@ -985,21 +1207,32 @@ static inline iovad_opened iovad_cache_open_within(iovad_cache *cache, const cha
     size_t length = strlen(path);
     iovad_over(&cache->session, -1);
     iovad_own_lose(&cache->session, IOVAD_ENDED);
+    cache->watch = &iovad_own_closed;
     iova_cache_init(&cache->ranges);
     opened.error = length >= sizeof cache->path ? (uint64_t)IOVAD_BAD_PATH : iova_cache_apart(&cache->ranges, sac);
     if (opened.error)
         return opened;
+    cache->watch = iovad_own_begin_watch();
+    if (!cache->watch->in) {
+        iova_cache_clear(&cache->ranges);
+        opened.error = IOVA_NO_MEMORY;
+        return opened;
+    }
     memcpy(cache->path, path, length + 1);
     cache->begun = cache->ended = cache->since = cache->clean = 0;
-    cache->is_flushing = 0;
+    cache->is_flushing = cache->idle = 0;
+    cache->calls = IOVAD_CACHE_LOOKS;
+    cache->looked = cache->asked = 0;
     cache->domain = domain;
     cache->sac = sac;
     cache->milliseconds = milliseconds;
     opened = iovad_own_cache_connect(cache, &kept);
-    if (opened.error)
+    if (opened.error) {
         iova_cache_clear(&cache->ranges);
-    else if (kept.len)
+        iovad_own_end_watch(cache);
+    } else if (kept.len) {
         iova_cache_put(&cache->ranges, kept.lo, kept.len);
+    }
     return opened;
 }
 
@@ -1011,7 +1244,7 @@ static inline iovad_opened iovad_cache_open(iovad_cache *cache, const char *path
 /* Gives a range, as iovad_alloc does; but up to 32 frames it need not be the highest that fits. By HoldingsFull the
  * user itself has 4,096 ranges that it holds or that wait. */
 static inline iovad_range iovad_cache_alloc(iovad_cache *cache, uint64_t frames, uint64_t limit) {
-    if (IOVAD_OWN_LIKELY(!cache->session.lost)) {
+    if (IOVAD_OWN_LIKELY((cache->watch->quick -= IOVAD_OWN_CALL) >= 0)) {
         iova_packed_range range = iova_cache_alloc_packed(&cache->ranges, frames, limit);
         if (IOVAD_OWN_LIKELY(range.len))
             return iovad_own_range(0, range.lo, range.len);
@@ -1022,13 +1255,10 @@ static inline iovad_range iovad_cache_alloc(iovad_cache *cache, uint64_t frames,
 /* Frees the range that begins at frame `lo`: the device has stopped using it, and its mapping is gone. NotHeld: the
  * user holds no range that begins there. RingFull: 255 wait, and flushes didn't help; the range is still held. */
 static inline iovad_range iovad_cache_free(iovad_cache *cache, uint64_t lo) {
-    if (IOVAD_OWN_LIKELY(!cache->session.lost)) {
+    if (IOVAD_OWN_LIKELY((cache->watch->quick -= IOVAD_OWN_CALL - 1) >= 0)) {
         iova_packed_range range = iova_cache_unmap_packed(&cache->ranges, lo, cache->begun);
-        if (IOVAD_OWN_LIKELY(range.len)) {
-            if (++cache->since >= IOVAD_CACHE_AHEAD)
-                iovad_own_ask_flush(cache); /* an error is told by the next call */
+        if (IOVAD_OWN_LIKELY(range.len))
             return iovad_own_range(0, range.lo, range.len);
-        }
     }
     return iovad_own_cache_free(cache, lo);
 }
@@ -1036,17 +1266,39 @@ static inline iovad_range iovad_cache_free(iovad_cache *cache, uint64_t lo) {
 /* A flush now, of all that waits here: behind it the device reaches nothing of what was freed. Answers 0, or why it
  * failed. */
 static inline uint64_t iovad_cache_flush(iovad_cache *cache) {
-    uint64_t error = iovad_own_flush(cache);
+    uint64_t error = iovad_own_begin(cache);
+    if (error)
+        return error;
+    error = iovad_own_flush(cache);
     iovad_own_settle(cache);
+    iovad_own_end(cache);
     return error;
+}
+
+/* Looks at the socket now, without a wait; where iovad_cache_keep_alive was called and a third of its time has passed, a
+ * `stat` is asked and waited for. Answers 0, or the error by which the session is lost. */
+static inline uint64_t iovad_cache_look(iovad_cache *cache) {
+    cache->watch->quick |= INT64_MIN;
+    return iovad_own_begin(cache);
+}
+
+/* The daemon was started with --idle, of so many seconds; 0: without it, or it may end the session. A look is made now,
+ * and from now on looks keep the session alive, also over iovad_cache_reopen. That takes calls: a program that pauses
+ * for more than a third of that time calls iovad_cache_look meanwhile. */
+static inline void iovad_cache_keep_alive(iovad_cache *cache, int seconds) {
+    cache->idle = seconds <= 0 ? 0 : seconds < 86400 ? 1000 * seconds : 86400000;
+    cache->calls = cache->idle ? 1 : IOVAD_CACHE_LOOKS;
+    cache->looked = cache->asked = 0;
+    iovad_cache_look(cache);
 }
 
 /* Gives back all that nobody uses and that waits for no flush, so that other clients may have it: for a client that
  * will be idle, or where others are refused by NoSpace. Answers 0, or the error by which the session is lost. */
 static inline uint64_t iovad_cache_give_back(iovad_cache *cache) {
-    if (!cache->session.lost) {
+    if (!iovad_own_begin(cache)) {
         iovad_own_flushed(cache);
         iovad_own_give_back(cache);
+        iovad_own_end(cache);
     }
     return cache->session.lost;
 }
@@ -1067,7 +1319,7 @@ static inline iovad_cached iovad_cache_counts_of(iovad_cache *cache) {
 /* Begins a new client at the same path, where the session is lost; one that isn't is closed. What the user held is
  * written into the list, in no order, and answered is how many: it is the user's no more, and its mappings are to be
  * removed from the device. The errors of iovad_cache_open_within, and then the call may be made again, which lists it;
- * and IOVAD_NO_ROOM where the list is shorter than that, and then nothing was done. */
+ * IOVAD_NO_ROOM where the list is shorter than that, and IOVAD_FORKED, and then nothing was done. */
 static inline iovad_held iovad_cache_reopen(iovad_cache *cache, iovad_listed *list, size_t room) {
     iova_cache_counts counts = iova_cache_counts_of(&cache->ranges);
     iovad_held lost = {counts.refused ? counts.refused : counts.held > room ? (uint64_t)IOVAD_NO_ROOM : 0, 0};
@@ -1075,11 +1327,15 @@ static inline iovad_held iovad_cache_reopen(iovad_cache *cache, iovad_listed *li
     iovad_range kept;
     uint64_t at;
     iova_cache_init(&fresh);
+    if (iovad_own_begin(cache) == IOVAD_FORKED)
+        lost.error = IOVAD_FORKED;
     if (!lost.error)
         lost.error = iova_cache_apart(&fresh, cache->sac);
     if (lost.error)
         return lost;
+    iovad_own_watch_fd(cache->watch, -1);
     iovad_close(&cache->session);
+    cache->watch->quick = IOVAD_OWN_NONE;
     cache->is_flushing = 0;
     lost.error = iovad_own_cache_connect(cache, &kept).error;
     if (lost.error) {
@@ -1098,14 +1354,18 @@ static inline iovad_held iovad_cache_reopen(iovad_cache *cache, iovad_listed *li
         iova_cache_put(&cache->ranges, kept.lo, kept.len);
     cache->ended = cache->begun;
     cache->since = cache->clean = 0;
+    cache->looked = cache->asked = 0;
     return lost;
 }
 
 /* Ends the client, also where the session is lost, and lets the cache go: all its ranges, those that the user holds
- * too, wait for a flush in the daemon. Answers as iovad_bye. */
+ * too, wait for a flush in the daemon. Answers as iovad_bye; in a forked child IOVAD_FORKED, and then only the child's
+ * copy has ended. */
 static inline uint64_t iovad_cache_close(iovad_cache *cache) {
     uint64_t error;
+    iovad_own_begin(cache);
     iovad_own_flushed(cache);
+    iovad_own_end_watch(cache);
     error = iovad_bye(&cache->session);
     iova_cache_clear(&cache->ranges);
     return error;

@@ -26,6 +26,15 @@
  * threads at once, up to 32. It invalidates the whole domain, and answers 0 where that failed: what waits stays
  * waiting.
  *
+ * `invalidate` makes no flush: there iova_shared_flush is refused by IOVA_FLIGHTS_FULL, and a call that needs a flush by
+ * IOVA_RING_FULL or IOVA_NO_SPACE. No call here is a cancellation point: a thread that is cancelled in `invalidate` goes
+ * on until the flush has ended. If `invalidate` ends the thread itself, by pthread_exit, or leaves by an exception of
+ * C++, the flush ends as one that failed; the thread's cache stays open, and another thread may close it.
+ *
+ * In a child of fork(2) the domain and the caches are the parent's: each call of a cache is refused by IOVA_NO_CACHE, and
+ * iova_shared_flush and iova_shared_open by IOVA_NO_DOMAIN. The child may make a domain of its own, and share it. vfork,
+ * _Fork and a clone(2) of the program's own run no handler of pthread_atfork, so there the program itself must not call.
+ *
  * A domain that is full: a thread that finds no space flushes, gives back what its own cache has, and asks once more.
  * If there is none even so it is refused by IOVA_NO_SPACE, and all other caches give back what is clean at their next
  * call: so it asks again later. A thread that will make no call for long calls iova_shared_give_back first.
@@ -37,7 +46,7 @@
  *    open stay where they are in memory;
  *  - what is unmapped was unmapped for the device before, by stores that the thread has made, or that are ordered
  *    before its call;
- *  - no call from a signal handler, nor in the forked child of a process that has threads.
+ *  - no call from a signal handler, and no thread that is cancelled at any instruction (PTHREAD_CANCEL_ASYNCHRONOUS).
  *
  * What this header owes the caches, which the library can't see. It is held to by tests/c (shared, races, fences), not
  * proved:
@@ -71,8 +80,12 @@ typedef struct iova_shared {
     uint64_t granule; /* the bytes of a frame */
     int (*invalidate)(void *with);
     void *with;
-    struct iova_shared_cache *caches; /* those that are open; under the lock */
-    char apart[64];                   /* no other number lies in the processor's line with these two */
+    struct iova_shared_cache *caches; /* those that are open; changed under the lock and that of `forks` */
+    struct iova_own_flight *flights;  /* the flushes that threads are making; under the lock */
+    struct iova_own_forks *forks;
+    struct iova_shared *next, **at; /* of `forks` */
+    int is_forked;                  /* this process is a child of the domain's */
+    char apart[64];                 /* no other number lies in the processor's line with these two */
     uint64_t begun;                   /* the last flush that has begun */
     uint64_t ended;                   /* the greatest number of a flush that ended well */
     char behind[64];
@@ -115,8 +128,75 @@ typedef struct iova_shared_counts {
 #define IOVA_OWN_MAGAZINE 256
 #define IOVA_OWN_RING 255
 #define IOVA_OWN_EXCHANGED 64
+#define IOVA_OWN_WAITS UINT64_MAX
 
-enum iova_own_call { IOVA_OWN_WANTED = 1, IOVA_OWN_LEFT = 2 };
+enum iova_own_call { IOVA_OWN_WANTED = 1, IOVA_OWN_LEFT = 2, IOVA_OWN_FORKED = 4 };
+
+/* A flush that a thread is making, on the thread's stack. */
+struct iova_own_flight {
+    iova_shared *shared;
+    uint64_t number;
+    pthread_t thread;
+    int cancels; /* whether the thread could be cancelled before */
+    struct iova_own_flight *next, **at;
+};
+
+/* The domains that this file of the program has shared, which a forked child marks. */
+struct iova_own_forks {
+    pthread_mutex_t lock;
+    iova_shared *first;
+    int has_handlers;
+};
+
+static struct iova_own_forks iova_own_forks __attribute__((unused)) = {PTHREAD_MUTEX_INITIALIZER, NULL, 0};
+
+IOVA_OWN_COLD void iova_own_fork_begins(void) { pthread_mutex_lock(&iova_own_forks.lock); }
+
+IOVA_OWN_COLD void iova_own_fork_ended(void) { pthread_mutex_unlock(&iova_own_forks.lock); }
+
+/* In the child: neither domains nor caches are its own, nor those of its children. */
+IOVA_OWN_COLD void iova_own_is_child(void) {
+    iova_shared *shared;
+    iova_shared_cache *cache;
+    for (shared = iova_own_forks.first; shared; shared = shared->next) {
+        shared->is_forked = 1;
+        for (cache = shared->caches; cache; cache = cache->next)
+            __atomic_fetch_or(&cache->called, (uint64_t)IOVA_OWN_FORKED, __ATOMIC_RELEASE);
+    }
+    iova_own_forks.first = NULL;
+    pthread_mutex_unlock(&iova_own_forks.lock);
+}
+
+/* A child will find the domain. Whether there was memory for that. */
+IOVA_OWN_COLD int iova_own_begin_watch(iova_shared *shared) {
+    struct iova_own_forks *forks = &iova_own_forks;
+    int is_watched;
+    shared->forks = forks;
+    pthread_mutex_lock(&forks->lock);
+    if (!forks->has_handlers)
+        forks->has_handlers = !pthread_atfork(iova_own_fork_begins, iova_own_fork_ended, iova_own_is_child);
+    is_watched = forks->has_handlers;
+    if (is_watched) {
+        shared->next = forks->first;
+        shared->at = &forks->first;
+        if (shared->next)
+            shared->next->at = &shared->next;
+        forks->first = shared;
+    }
+    pthread_mutex_unlock(&forks->lock);
+    return is_watched;
+}
+
+IOVA_OWN_COLD void iova_own_end_watch(iova_shared *shared) {
+    pthread_mutex_lock(&shared->forks->lock);
+    *shared->at = shared->next;
+    if (shared->next)
+        shared->next->at = shared->at;
+    pthread_mutex_unlock(&shared->forks->lock);
+}
+
+/* Whether a call that isn't quick is made in a child: also of a cache that another thread was just opening or closing. */
+static inline int iova_own_is_forked(const iova_shared_cache *cache) { return cache->shared->is_forked; }
 
 #if defined(__SANITIZE_THREAD__)
 #define IOVA_OWN_TSAN 1
@@ -168,33 +248,80 @@ static inline uint64_t iova_own_begun(iova_shared *shared) {
     return __atomic_load_n(&shared->begun, __ATOMIC_SEQ_CST);
 }
 
-/* A flush of the whole domain now. Waits where 32 are in flight. Answers 0, IOVA_SINK_FAULT where the invalidation
- * failed, or IOVA_WORN or IOVA_NO_DOMAIN. */
-static inline uint64_t iova_shared_flush(iova_shared *shared) {
-    iova_number flush;
-    int went_well;
-    for (;;) {
-        iova_own_lock(shared);
-        flush = iova_begin(shared->domain);
-        if (!flush.refused) /* G1: in this hold, so that it rises */
-            __atomic_store_n(&shared->begun, flush.number, __ATOMIC_SEQ_CST);
-        iova_own_unlock(shared);
-        if (flush.refused != IOVA_FLIGHTS_FULL)
-            break;
-        sched_yield();
-    }
-    if (flush.refused)
-        return flush.refused;
-    /* G1: behind this whatever a device finds in the page table is without the entries that were cleared before an
-     * older number was loaded, and only then are translations taken away. */
-    iova_own_fence();
-    went_well = shared->invalidate(shared->with) != 0;
+/* Begins a flush of this thread. Answers 0, or the refusal; IOVA_OWN_WAITS where 32 are in flight, which will end. */
+IOVA_OWN_COLD uint64_t iova_own_begin_flight(iova_shared *shared, struct iova_own_flight *flight) {
+    struct iova_own_flight *other;
+    uint64_t refused = 0;
+    flight->shared = shared;
+    flight->thread = pthread_self();
     iova_own_lock(shared);
-    iova_end(shared->domain, flush.number, (uint64_t)went_well);
+    for (other = shared->flights; other; other = other->next)
+        if (pthread_equal(other->thread, flight->thread))
+            refused = IOVA_FLIGHTS_FULL; /* in its `invalidate` */
+    if (!refused) {
+        iova_number flush = iova_begin(shared->domain);
+        flight->number = flush.number;
+        refused = flush.refused == IOVA_FLIGHTS_FULL ? IOVA_OWN_WAITS : flush.refused;
+    }
+    if (!refused) {
+        __atomic_store_n(&shared->begun, flight->number, __ATOMIC_SEQ_CST); /* G1: in this hold, so that it rises */
+        flight->next = shared->flights;
+        flight->at = &shared->flights;
+        if (flight->next)
+            flight->next->at = &flight->next;
+        shared->flights = flight;
+    }
+    iova_own_unlock(shared);
+    return refused;
+}
+
+IOVA_OWN_COLD void iova_own_end_flight(struct iova_own_flight *flight, int went_well) {
+    iova_shared *shared = flight->shared;
+    iova_own_lock(shared);
+    *flight->at = flight->next;
+    if (flight->next)
+        flight->next->at = flight->at;
+    iova_end(shared->domain, flight->number, (uint64_t)went_well);
     /* G3: `newest` and not `finish`, which would wait for flushes in flight that began before. Of one that failed it's
      * an older number, which frees nothing. */
     __atomic_store_n(&shared->ended, iova_flushes_of(shared->domain).newest, __ATOMIC_RELEASE);
     iova_own_unlock(shared);
+}
+
+/* The thread ends in `invalidate`, or leaves it by an exception of C++. */
+IOVA_OWN_COLD void iova_own_fail(void *of) {
+    struct iova_own_flight *flight = (struct iova_own_flight *)of;
+    iova_own_end_flight(flight, 0);
+    pthread_setcancelstate(flight->cancels, &flight->cancels);
+}
+
+IOVA_OWN_COLD int iova_own_invalidate(struct iova_own_flight *flight) {
+    int went_well;
+    pthread_cleanup_push(iova_own_fail, flight);
+    went_well = flight->shared->invalidate(flight->shared->with) != 0;
+    pthread_cleanup_pop(0);
+    return went_well;
+}
+
+/* A flush of the whole domain now. Waits where 32 are in flight. Answers 0, IOVA_SINK_FAULT where the invalidation
+ * failed, IOVA_FLIGHTS_FULL in an `invalidate` of this thread, or IOVA_WORN or IOVA_NO_DOMAIN. */
+static inline uint64_t iova_shared_flush(iova_shared *shared) {
+    struct iova_own_flight flight;
+    uint64_t refused;
+    int went_well;
+    if (shared->is_forked)
+        return IOVA_NO_DOMAIN;
+    while ((refused = iova_own_begin_flight(shared, &flight)) == IOVA_OWN_WAITS)
+        sched_yield();
+    if (refused)
+        return refused;
+    pthread_setcancelstate(PTHREAD_CANCEL_DISABLE, &flight.cancels);
+    /* G1: behind this whatever a device finds in the page table is without the entries that were cleared before an
+     * older number was loaded, and only then are translations taken away. */
+    iova_own_fence();
+    went_well = iova_own_invalidate(&flight);
+    iova_own_end_flight(&flight, went_well);
+    pthread_setcancelstate(flight.cancels, &flight.cancels);
     return went_well ? 0 : (uint64_t)IOVA_SINK_FAULT;
 }
 
@@ -290,7 +417,8 @@ IOVA_OWN_COLD iova_range iova_own_give_up(iova_shared_cache *cache, uint64_t lo)
 }
 
 /* Gives up what other threads have left. The number of each is read now, behind their stores, and is late at most,
- * which is sound. What the ring has no room for stays. Others only add, behind what is copied here. */
+ * which is sound. From the first on for which there is no room all stay: behind a flush that failed no other is made.
+ * Others only add, behind what is copied here. */
 IOVA_OWN_COLD void iova_own_take_left(iova_shared_cache *cache) {
     uint64_t left[IOVA_SHARED_LEFT], count, at, kept = 0, wrong = 0;
     pthread_mutex_lock(&cache->left_lock);
@@ -301,10 +429,11 @@ IOVA_OWN_COLD void iova_own_take_left(iova_shared_cache *cache) {
     for (at = 0; at < count; at++) {
         uint64_t refused = iova_own_give_up(cache, left[at]).refused;
         if (refused == IOVA_RING_FULL)
-            left[kept++] = left[at];
-        else
-            wrong += refused != 0;
+            break;
+        wrong += refused != 0;
     }
+    for (; at < count; at++)
+        left[kept++] = left[at];
     pthread_mutex_lock(&cache->left_lock);
     cache->left_wrong += wrong;
     for (at = 0; at < kept; at++)
@@ -376,6 +505,8 @@ static inline int iova_own_is_unmet(uint64_t refused) {
 static inline iova_range iova_own_request(iova_shared_cache *cache, uint64_t frames, uint64_t limit) {
     iova_range range;
     int tries;
+    if (iova_own_is_forked(cache))
+        return iova_own_refused(IOVA_NO_CACHE);
     if (cache->is_closing)
         return iova_own_refused(IOVA_CLOSING);
     iova_own_answer(cache);
@@ -403,8 +534,8 @@ IOVA_OWN_COLD void iova_own_alloc(iova_shared_cache *cache) {
 }
 
 IOVA_OWN_COLD void iova_own_unmap(iova_shared_cache *cache) {
-    if (cache->is_closing) {
-        cache->answer = iova_own_refused(IOVA_CLOSING);
+    if (cache->is_closing || iova_own_is_forked(cache)) {
+        cache->answer = iova_own_refused(iova_own_is_forked(cache) ? IOVA_NO_CACHE : IOVA_CLOSING);
         return;
     }
     iova_own_answer(cache);
@@ -429,19 +560,33 @@ static inline uint64_t iova_shared_init(iova_shared *shared, iova_domain *domain
     shared->invalidate = invalidate;
     shared->with = with;
     shared->caches = NULL;
+    shared->flights = NULL;
+    shared->is_forked = 0;
     shared->begun = flushes.start;
     shared->ended = flushes.newest;
-    return pthread_mutex_init(&shared->lock, NULL) ? (uint64_t)IOVA_NO_MEMORY : 0;
+    if (pthread_mutex_init(&shared->lock, NULL))
+        return IOVA_NO_MEMORY;
+    if (iova_own_begin_watch(shared))
+        return 0;
+    pthread_mutex_destroy(&shared->lock);
+    return IOVA_NO_MEMORY;
 }
 
-/* The domain is shared no more: all caches were closed. It is the program's again. */
-static inline void iova_shared_clear(iova_shared *shared) { pthread_mutex_destroy(&shared->lock); }
+/* The domain is shared no more: all caches were closed. It is the program's again. In a forked child nothing is done. */
+static inline void iova_shared_clear(iova_shared *shared) {
+    if (shared->is_forked)
+        return;
+    iova_own_end_watch(shared);
+    pthread_mutex_destroy(&shared->lock);
+}
 
 /* Opens a cache for a thread, in room of the program's own: a client of the worker, with `sac` as for iova_open.
- * Several caches may be of one worker. Answers 0, or a refusal of iova_cache_make, and then the room is left as it may
- * be. */
+ * Several caches may be of one worker. Answers 0, or a refusal of iova_cache_make or, in a forked child,
+ * IOVA_NO_DOMAIN, and then the room is left as it may be. */
 static inline uint64_t iova_shared_open(iova_shared_cache *cache, iova_shared *shared, uint64_t worker, uint64_t sac) {
     iova_number client;
+    if (shared->is_forked)
+        return IOVA_NO_DOMAIN;
     iova_cache_init(&cache->cache);
     cache->shared = shared;
     cache->shift = (unsigned)__builtin_ctzll(shared->granule);
@@ -454,8 +599,10 @@ static inline uint64_t iova_shared_open(iova_shared_cache *cache, iova_shared *s
     client = iova_cache_make(shared->domain, &cache->cache, worker, sac);
     cache->client = client.number;
     if (!client.refused) {
+        pthread_mutex_lock(&shared->forks->lock);
         cache->next = shared->caches;
         shared->caches = cache;
+        pthread_mutex_unlock(&shared->forks->lock);
     }
     iova_own_unlock(shared);
     if (client.refused)
@@ -518,6 +665,8 @@ static inline iova_mapping iova_shared_unmap_bytes(iova_shared_cache *cache, uin
  * still held. */
 static inline uint64_t iova_shared_unmap_by_other(iova_shared_cache *cache, uint64_t lo) {
     uint64_t refused = 0;
+    if (iova_own_is_forked(cache))
+        return IOVA_NO_CACHE;
     pthread_mutex_lock(&cache->left_lock);
     if (cache->left_count < IOVA_SHARED_LEFT)
         cache->left[cache->left_count++] = lo;
@@ -531,6 +680,8 @@ static inline uint64_t iova_shared_unmap_by_other(iova_shared_cache *cache, uint
 /* Gives back all that nobody uses and that waits for no flush, and takes what other threads have left: for a thread
  * that will make no call for long. Answers 0, or IOVA_CLOSING. */
 static inline uint64_t iova_shared_give_back(iova_shared_cache *cache) {
+    if (iova_own_is_forked(cache))
+        return IOVA_NO_CACHE;
     if (cache->is_closing)
         return IOVA_CLOSING;
     iova_own_answer(cache);
@@ -543,7 +694,9 @@ static inline iova_shared_counts iova_shared_counts_of(iova_shared_cache *cache)
     iova_shared_counts counts = {IOVA_CLOSING, 0, 0, 0, 0, 0};
     iova_cache_counts own;
     uint64_t order;
-    if (cache->is_closing)
+    if (iova_own_is_forked(cache))
+        counts.refused = IOVA_NO_CACHE;
+    if (cache->is_closing || iova_own_is_forked(cache))
         return counts;
     own = iova_cache_counts_of(&cache->cache);
     counts.refused = own.refused;
@@ -560,19 +713,23 @@ static inline iova_shared_counts iova_shared_counts_of(iova_shared_cache *cache)
 
 /* Ends the cache: all its ranges, those that the user holds too, wait for a flush in the domain. The device has stopped
  * using them. 0: it is gone. Else, as by IOVA_RING_FULL where no flush goes well, it is closing: each other call is
- * refused by IOVA_CLOSING, and this one may be made again. */
+ * refused by IOVA_CLOSING, and this one may be made again. In a forked child IOVA_NO_CACHE, and nothing is done. */
 static inline uint64_t iova_shared_close(iova_shared_cache *cache) {
     iova_shared *shared = cache->shared;
     iova_shared_cache **at;
     int flushes = 0;
+    if (iova_own_is_forked(cache))
+        return IOVA_NO_CACHE;
     if (!cache->is_closing) {
         iova_own_lock(shared);
         iova_cache_end(shared->domain, &cache->cache);
+        pthread_mutex_lock(&shared->forks->lock);
         for (at = &shared->caches; *at; at = &(*at)->next)
             if (*at == cache) {
                 *at = cache->next;
                 break;
             }
+        pthread_mutex_unlock(&shared->forks->lock);
         iova_own_unlock(shared);
         cache->is_closing = 1;
         pthread_mutex_destroy(&cache->left_lock);
