@@ -6,6 +6,7 @@
  *   in a receive or a send on a socket.
  * - IN_FAILS, OUT_FAILS, WIRE_FAILS: the number of the call of this kind that fails, counted from 1. Of calls on sockets
  *   receives and sends are counted together, and one on that of the first connection fails.
+ * - WIRE_INTERRUPTED: the number of the call on sockets, counted so, that a signal interrupts.
  * - SINK_FAILS: the number of the write of a record, `inval ..`, that fails.
  * - SINK_FAILS_UNTIL: so do all behind it, before there is a file with this path.
  * - OUT_TAKES_NONE: a write that fails takes no byte, and there is no error.
@@ -76,10 +77,12 @@ ssize_t write(int file, const void *bytes, size_t count) {
     return is_record(bytes, count) && is_refused() ? fault(EIO) : real(file, bytes, count);
 }
 
-/* Whether this call on a socket fails. */
-static int is_cut_off(void) {
+/* The error of this call on a socket, or 0 if the call doesn't fail. */
+static int wire_error(void) {
     long call = atomic_fetch_add(&wire_calls, 1) + 1;
-    return connections == 1 && call == number("WIRE_FAILS");
+    if (connections != 1)
+        return 0;
+    return call == number("WIRE_FAILS") ? ECONNRESET : call == number("WIRE_INTERRUPTED") ? EINTR : 0;
 }
 
 static void connected(int done) {
@@ -109,12 +112,14 @@ ssize_t recv(int stream, void *bytes, size_t count, int flags) {
     ssize_t there = real(stream, bytes, cut(count, "WIRE_MOST"), flags | MSG_PEEK);
     if (there < 0)
         return there;
-    return is_cut_off() ? fault(ECONNRESET) : real(stream, bytes, cut(count, "WIRE_MOST"), flags);
+    int error = wire_error();
+    return error != 0 ? fault(error) : real(stream, bytes, cut(count, "WIRE_MOST"), flags);
 }
 
 ssize_t send(int stream, const void *bytes, size_t count, int flags) {
     REAL(send);
-    return is_cut_off() ? fault(ECONNRESET) : real(stream, bytes, cut(count, "WIRE_MOST"), flags);
+    int error = wire_error();
+    return error != 0 ? fault(error) : real(stream, bytes, cut(count, "WIRE_MOST"), flags);
 }
 
 int nanosleep(const struct timespec *wanted, struct timespec *left) {

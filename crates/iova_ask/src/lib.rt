@@ -1,4 +1,4 @@
-//! The peer of a daemon: lines sent over a link, and their answers copied.
+//! A client of a daemon: lines sent over a link, and their answers copied.
 #![tactic(auto)]
 
 ghost use Rattle.std.specs.Prelude.{List, ◌≢◌, ◌+◌, ◌^◌, ◌<◌, ◌≤◌, ℕ, [], IfErr, MatchResult, OnOk, length};

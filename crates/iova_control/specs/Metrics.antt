@@ -75,7 +75,8 @@ flush_metrics n =
 
 abbrev pub daemon_metrics : Facts → DaemonCounts → DaemonMetrics → List NumberMetric
 daemon_metrics f c g =
-    counter (codes "iovad_flushes_failed_total") (codes "Flushes that the sink failed.") c.failed
+    counter (codes "iovad_flushes_failed_total")
+    (codes "Flushes that failed or could not begin.") c.failed
     ∷ gauge (codes "iovad_workers") (codes "Workers of the domain.") f.workers
     ∷ gauge (codes "iovad_granule_bytes") (codes "Bytes of a page frame.") f.granule
     ∷ gauge (codes "iovad_clients") (codes "The most sessions that are served at a time.") f.clients

@@ -23,8 +23,8 @@ use std::os::unix::net::{UnixListener, UnixStream};
 use std::rt::Clock;
 use std::sync::atomic::{AtomicBool, Ordering};
 use std::sync::{Mutex, Wait};
-use std::thread;
 use std::time::Duration;
+use std::{io, thread};
 
 /// What is done beside the sessions of a daemon: its control socket, where it has one, and that a
 /// full record is reported.
@@ -240,7 +240,7 @@ impl<'a, R: AllocGlobal, N: Log> Control<'a, R, N> {
                     self.takes(connection, bytes, domain, source, pad);
                 }
             }
-            Err(error) if error.kind() == ErrorKind::WouldBlock => {
+            Err(error) if is_to_be_tried_again(&error) => {
                 connection.silent = connection.silent.max(1);
             }
             Err(_) => connection.is_read = false,
@@ -356,8 +356,14 @@ fn is_pushed_out(connection: &mut Connection) -> bool {
             connection.owed.drain(..n.min(connection.owed.len()));
             true
         }
-        Err(error) => error.kind() == ErrorKind::WouldBlock,
+        Err(error) => is_to_be_tried_again(&error),
     }
+}
+
+/// Whether a call that failed so is made again at the next look: a read found nothing, a write
+/// found no room, or a signal interrupted it.
+fn is_to_be_tried_again(error: &io::Error) -> bool {
+    error.kind() == ErrorKind::WouldBlock || error.kind() == ErrorKind::Interrupted
 }
 
 /// The place of the connection that makes room for another one: the oldest that was answered and is

@@ -187,7 +187,7 @@ fn put_daemon(
         &[
             counter(
                 "iovad_flushes_failed_total",
-                "Flushes that the sink failed.",
+                "Flushes that failed or could not begin.",
                 signals.failed_flushes(),
             ),
             gauge("iovad_workers", "Workers of the domain.", facts.workers),

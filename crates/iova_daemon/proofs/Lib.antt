@@ -1,3 +1,4 @@
 mod Sends
 mod Places
+mod Rounds
 mod SessionThreads

@@ -1,30 +1,116 @@
 -- What serving leaves of seats, one after another.
-use Rattle.std.proofs.Common.{ℕ, ◌≡◌, ◌∙◌, ◌+◌, ◌≤◌, List, [], ◌∷◌, ◌++◌, map, length, sym, ap, refl, arith}
-use Rattle.std.specs.Prelude.{sum, sum_by}
+use Rattle.std.proofs.Common.{ℕ, ◌≡◌, ◌∙◌, ◌+◌, ◌≤◌, Option, List, [], ◌∷◌, ◌++◌, map, length, sym, ap, refl, arith}
+use Rattle.std.specs.Prelude.{sum, sum_by, slice_index_or}
+use Rattle.std.proofs.Math.Seq.{get_or-append_seam}
 use Rattle.std.proofs.lemmas.List.Sums.{sum_by-append, sum-map}
 use Rattle.std.proofs.lemmas.Simd.{map-map}
-use Rattle.std.proofs.lemmas.List.{append-nil, length-append, map-append}
+use Rattle.std.proofs.lemmas.List.{append-nil, length-append, length-map, map-append}
 use Rattle.iova_sink.specs.Calls.{Call, good_calls}
-use Rattle.iova_keep.specs.Views.{SeatState, TallyState, KeepsPlace, RisesWithin}
+use Rattle.iova_model.specs.State.{State}
+use Rattle.iova_keep.specs.Views.{Identity, SeatState, TallyState, KeepsPlace, RisesWithin}
+use Rattle.iova_session.specs.declared.session_limits.SessionLimits.{SessionLimits}
 use Rattle.iova_lock.specs.Books.{tally_parts}
 use Rattle.iova_daemon.specs.Serving.{AreKept, none, kept, AreWithin, CountsWithin}
+use Rattle.iova_daemon.specs.SessionThreads.{ThreadStart, ServesPost, AllServed, none_served, more_served, starts}
 
--- one more, behind all others
-kept_last : {ss ts : List SeatState} {cs ds : List (List Call)} (s t : SeatState) (c d : List Call)
-    → AreKept ss cs ts ds → KeepsPlace s t c d
-    → AreKept (ss ++ s ∷ []) (cs ++ c ∷ []) (ts ++ t ∷ []) (ds ++ d ∷ [])
-kept_last s t c d none one = kept s t c d [] [] [] [] one none
-kept_last s t c d (kept a b e f ss ts cs ds first more) one =
-    kept a b e f (ss ++ s ∷ []) (ts ++ t ∷ []) (cs ++ c ∷ []) (ds ++ d ∷ []) first (kept_last s t c d more one)
+-- one more thread, after all others
+served_last : {L : Type 0} (left sent : L → Option (List ℕ)) (calls reads : L → ℕ) {ts : List ThreadStart} {ss : List SeatState}
+    {ws : List (List ℕ)} {cs : List (List Call)} (t : ThreadStart) (s : SeatState) (w : List ℕ) (c : List Call)
+    → AllServed left sent calls reads ts ss ws cs → ServesPost left sent calls reads t s w c
+    → AllServed left sent calls reads (ts ++ t ∷ []) (ss ++ s ∷ []) (ws ++ w ∷ []) (cs ++ c ∷ [])
+served_last left sent calls reads t s w c none_served one = more_served t s w c [] [] [] [] one none_served
+served_last left sent calls reads t s w c (more_served u x y d ts ss ws cs first more) one =
+    more_served u x y d (ts ++ t ∷ []) (ss ++ s ∷ []) (ws ++ w ∷ []) (cs ++ c ∷ []) first (served_last left sent calls reads t s w c more one)
 
--- what threads had and gave back is kept, and one thread's more
-pub more_kept : {H A B : Type 0} (s : H → SeatState) (c : H → List Call) (t : A → SeatState) (d : B → List Call)
-    (hs : List H) (ps : List A) (qs : List B) (h : H) (a : A) (b : B)
-    → AreKept (map s hs) (map c hs) (map t ps) (map d qs) → KeepsPlace (s h) (t a) (c h) (d b)
-    → AreKept (map s (hs ++ h ∷ [])) (map c (hs ++ h ∷ [])) (map t (ps ++ a ∷ [])) (map d (qs ++ b ∷ []))
-more_kept s c t d hs ps qs h a b before one =
-    rw (map-append s hs (h ∷ [])) (rw (map-append c hs (h ∷ [])) (rw (map-append t ps (a ∷ [])) (rw (map-append d qs (b ∷ []))
-    (kept_last (s h) (t a) (c h) (d b) before one))))
+-- what threads had and gave back was served, and one thread's more
+pub more_kept : {L H A B : Type 0} (left sent : L → Option (List ℕ)) (calls reads : L → ℕ) (start : H → ThreadStart) (seat : A → SeatState)
+    (waiting : A → List ℕ) (told : B → List Call) (hs : List H) (ps : List A) (qs : List B) (h : H) (a : A) (b : B)
+    → AllServed left sent calls reads (map start hs) (map seat ps) (map waiting ps) (map told qs)
+    → ServesPost left sent calls reads (start h) (seat a) (waiting a) (told b)
+    → AllServed left sent calls reads (map start (hs ++ h ∷ [])) (map seat (ps ++ a ∷ [])) (map waiting (ps ++ a ∷ [])) (map told (qs ++ b ∷ []))
+more_kept left sent calls reads start seat waiting told hs ps qs h a b before one =
+    rw (map-append start hs (h ∷ [])) (rw (map-append seat ps (a ∷ [])) (rw (map-append waiting ps (a ∷ [])) (rw (map-append told qs (b ∷ []))
+    (served_last left sent calls reads (start h) (seat a) (waiting a) (told b) before one))))
+
+-- what threads keep of their places
+pub kept_of : {L : Type 0} (left sent : L → Option (List ℕ)) (calls reads : L → ℕ) {ts : List ThreadStart} {ss : List SeatState}
+    {ws : List (List ℕ)} {cs : List (List Call)} → AllServed left sent calls reads ts ss ws cs
+    → AreKept (map (λ t. t.seat) ts) (map (λ t. t.calls) ts) ss cs
+kept_of left sent calls reads none_served = none
+kept_of left sent calls reads (more_served t s w c ts ss ws cs one more) =
+    kept t.seat s t.calls c (map (λ t. t.seat) ts) ss (map (λ t. t.calls) ts) cs one.place (kept_of left sent calls reads more)
+
+-- the seats of starts, and the calls, where there is one of each
+starts_seats : (limits : SessionLimits) (k : Identity) (d : Option State) (ss : List SeatState) (ws : List (List ℕ)) (cs : List (List Call))
+    → length ws ≡ length ss → length cs ≡ length ss → map (λ t. t.seat) (starts limits k d ss ws cs) ≡ ss
+starts_seats limits k d [] ws cs e f = refl
+starts_seats limits k d (s ∷ ss) [] cs e f = absurd (omega (arith, e))
+starts_seats limits k d (s ∷ ss) (w ∷ ws) [] e f = absurd (omega (arith, f))
+starts_seats limits k d (s ∷ ss) (w ∷ ws) (c ∷ cs) e f =
+    ap (λ (xs : List SeatState). s ∷ xs) (starts_seats limits k d ss ws cs (omega (arith, e)) (omega (arith, f)))
+
+starts_calls : (limits : SessionLimits) (k : Identity) (d : Option State) (ss : List SeatState) (ws : List (List ℕ)) (cs : List (List Call))
+    → length ws ≡ length ss → length cs ≡ length ss → map (λ t. t.calls) (starts limits k d ss ws cs) ≡ cs
+starts_calls limits k d [] ws [] e f = refl
+starts_calls limits k d [] ws (c ∷ cs) e f = absurd (omega (arith, f))
+starts_calls limits k d (s ∷ ss) [] cs e f = absurd (omega (arith, e))
+starts_calls limits k d (s ∷ ss) (w ∷ ws) [] e f = absurd (omega (arith, f))
+starts_calls limits k d (s ∷ ss) (w ∷ ws) (c ∷ cs) e f =
+    ap (λ (xs : List (List Call)). c ∷ xs) (starts_calls limits k d ss ws cs (omega (arith, e)) (omega (arith, f)))
+
+pub kept_of_starts : {L : Type 0} (left sent : L → Option (List ℕ)) (calls reads : L → ℕ) (limits : SessionLimits) (k : Identity) (d : Option State)
+    (ss : List SeatState) (ws : List (List ℕ)) (cs : List (List Call)) {ts : List SeatState} {vs : List (List ℕ)} {ds : List (List Call)}
+    → length ws ≡ length ss → length cs ≡ length ss → AllServed left sent calls reads (starts limits k d ss ws cs) ts vs ds
+    → AreKept ss cs ts ds
+kept_of_starts {L} left sent calls reads limits k d ss ws cs {ts} {vs} {ds} e f all =
+    let kept : AreKept (map (λ t. t.seat) (starts limits k d ss ws cs)) (map (λ t. t.calls) (starts limits k d ss ws cs)) ts ds = kept_of {L = L} left sent calls reads all in
+    rw (starts_seats limits k d ss ws cs e f, starts_calls limits k d ss ws cs e f) at kept
+
+first_same : {A : Type 0} (x y : A) (xs ys : List A) → x ∷ xs ≡ y ∷ ys → x ≡ y
+first_same x y xs ys e = cc
+
+rest_same : {A : Type 0} (x y : A) (xs ys : List A) → x ∷ xs ≡ y ∷ ys → xs ≡ ys
+rest_same x y xs ys e = cc
+
+no_first : {A : Type 0} (x : A) (xs : List A) → [] ≡ x ∷ xs → ⊥
+no_first x xs e = cc
+
+no_rest : {A : Type 0} (x : A) (xs : List A) → x ∷ xs ≡ [] → ⊥
+no_rest x xs e = cc
+
+one_start : (limits limits' : SessionLimits) (k k' : Identity) (d d' : Option State) (s s' : SeatState) (w w' : List ℕ) (c c' : List Call)
+    → limits ≡ limits' → k ≡ k' → d ≡ d' → s ≡ s' → w ≡ w' → c ≡ c'
+    → ◌≡◌ {A = ThreadStart} (record { limits = limits; identity = k; domain = d; seat = s; waiting = w; calls = c })
+    (record { limits = limits'; identity = k'; domain = d'; seat = s'; waiting = w'; calls = c' })
+one_start limits limits' k k' d d' s s' w w' c c' a b e f g h = rw (a, b, e, f, g, h) refl
+
+-- threads that were started one after another with these
+pub started_are : {H P K : Type 0} (lim : H → SessionLimits) (keeper : H → K) (identity : K → Identity) (domain : K → Option State)
+    (seat_of : H → SeatState) (waiting_of : H → List ℕ) (calls_of : H → List Call) (limits : SessionLimits) (k : K)
+    (seat : P → SeatState) (waiting : P → List ℕ) (hs : List H) (ps : List P) (cs : List (List Call))
+    → map lim hs ≡ map (λ p. limits) ps → map keeper hs ≡ map (λ p. k) ps → map seat_of hs ≡ map seat ps
+    → map waiting_of hs ≡ map waiting ps → map calls_of hs ≡ cs
+    → ◌≡◌ {A = List ThreadStart} (map (λ h. record { limits = lim h; identity = identity (keeper h); domain = domain (keeper h); seat = seat_of h; waiting = waiting_of h; calls = calls_of h }) hs)
+    (starts limits (identity k) (domain k) (map seat ps) (map waiting ps) cs)
+started_are lim keeper identity domain seat_of waiting_of calls_of limits k seat waiting [] [] cs a b e f g = refl
+started_are lim keeper identity domain seat_of waiting_of calls_of limits k seat waiting [] (p ∷ ps) cs a b e f g = absurd (no_first _ _ a)
+started_are lim keeper identity domain seat_of waiting_of calls_of limits k seat waiting (h ∷ hs) [] cs a b e f g = absurd (no_rest _ _ a)
+started_are lim keeper identity domain seat_of waiting_of calls_of limits k seat waiting (h ∷ hs) (p ∷ ps) [] a b e f g = absurd (no_rest _ _ g)
+started_are lim keeper identity domain seat_of waiting_of calls_of limits k seat waiting (h ∷ hs) (p ∷ ps) (x ∷ cs) a b e f g =
+    let same = first_same _ _ _ _ b in
+    let one = one_start _ _ _ _ _ _ _ _ _ _ _ _ (first_same _ _ _ _ a) (ap identity same) (ap domain same) (first_same _ _ _ _ e) (first_same _ _ _ _ f) (first_same _ _ _ _ g) in
+    let more = started_are lim keeper identity domain seat_of waiting_of calls_of limits k seat waiting hs ps cs (rest_same _ _ _ _ a) (rest_same _ _ _ _ b)
+    (rest_same _ _ _ _ e) (rest_same _ _ _ _ f) (rest_same _ _ _ _ g) in
+    ap (λ (t : ThreadStart). t ∷ map (λ h. record { limits = lim h; identity = identity (keeper h); domain = domain (keeper h); seat = seat_of h; waiting = waiting_of h; calls = calls_of h }) hs) one
+    ∙ ap (λ (ts : List ThreadStart). record { limits = limits; identity = identity k; domain = domain k; seat = seat p; waiting = waiting p; calls = x } ∷ ts) more
+
+-- the last of a list, by its place
+pub last_of : {A B : Type 0} (f : A → B) (xs zs : List A) (x : A) (d : B) (n : ℕ) → zs ≡ xs ++ x ∷ [] → n ≡ length xs
+    → slice_index_or (map f zs) n d ≡ f x
+last_of f xs zs x d n all here =
+    let split : map f zs ≡ map f xs ++ f x ∷ [] = ap (map f) all ∙ map-append f xs (x ∷ []) in
+    let at : n ≡ length (map f xs) = here ∙ sym (length-map xs f) in
+    rw (split, at) (get_or-append_seam (map f xs) (f x) [] d)
 
 -- workers are those that they were
 pub same_workers : {ss ts : List SeatState} {cs ds : List (List Call)} → AreKept ss cs ts ds
@@ -52,9 +138,10 @@ whole_front xs (y ∷ ys) zs both long =
     let more = length-append xs (y ∷ ys) in let all = ap length both in absurd (omega (arith, more, all, long))
 
 -- before the first one is back
-pub none_kept : {A B : Type 0} (t : A → SeatState) (d : B → List Call) (ps : List A) (qs : List B)
-    → ps ≡ [] → qs ≡ [] → AreKept [] [] (map t ps) (map d qs)
-none_kept t d ps qs no_place no_sink = rw no_place (rw no_sink none)
+pub none_kept : {L A B : Type 0} (left sent : L → Option (List ℕ)) (calls reads : L → ℕ) (seat : A → SeatState) (waiting : A → List ℕ)
+    (told : B → List Call) (ps : List A) (qs : List B) → ps ≡ [] → qs ≡ []
+    → AllServed left sent calls reads [] (map seat ps) (map waiting ps) (map told qs)
+none_kept left sent calls reads seat waiting told ps qs no_place no_sink = rw no_place (rw no_sink none_served)
 
 -- the flusher's sink is the last of all, and its tally begins at 0
 pub counts_all : {D : Type 0} (calls : D → List Call) (sinks others : List D) (last : D) (seats seats_now : List SeatState)

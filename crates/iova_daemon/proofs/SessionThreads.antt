@@ -19,15 +19,16 @@ keeps_more s t u c d e one more =
     record { worker = more.worker ∙ one.worker; parts = more.parts ∙ one.parts; tally = omega (arith, first, rest) }
 
 -- a try more
-pub then_tried : {L : Type 0} (left sent : L → Option (List ℕ)) (reads : L → ℕ) (limits : SessionLimits) (k now : Identity) (a b c : Between)
-    → ServesOnThread left sent reads limits k.strict k.number a b → now ≡ k → IsTried now.number b c
-    → ServesOnThread left sent reads limits k.strict k.number a c
-then_tried left sent reads limits k now a b c before same tried =
+pub then_tried : {L : Type 0} (left sent : L → Option (List ℕ)) (calls reads : L → ℕ) (limits : SessionLimits) (k now : Identity) (a b c : Between)
+    → ServesOnThread left sent calls reads limits k.strict k.number a b → now ≡ k → IsTried now.number b c
+    → ServesOnThread left sent calls reads limits k.strict k.number a c
+then_tried left sent calls reads limits k now a b c before same tried =
     tries a b c before (subst (λ i. IsTried i.number b c) same tried)
 
 -- a session more
-pub then_served : {L : Type 0} (left sent : L → Option (List ℕ)) (reads : L → ℕ) (limits : SessionLimits) (k now : Identity) (a b c : Between) (link : L)
-    → ServesOnThread left sent reads limits k.strict k.number a b → now ≡ k → ServesSession left sent reads limits now.strict now.number link b c
-    → ServesOnThread left sent reads limits k.strict k.number a c
-then_served left sent reads limits k now a b c link before same served =
-    serves a b c link before (subst (λ i. ServesSession left sent reads limits i.strict i.number link b c) same served)
+pub then_served : {L : Type 0} (left sent : L → Option (List ℕ)) (calls reads : L → ℕ) (limits : SessionLimits) (k now : Identity) (a b c : Between)
+    → ServesOnThread left sent calls reads limits k.strict k.number a b → now ≡ k
+    → ServesSession left sent calls reads limits now.strict now.number b c
+    → ServesOnThread left sent calls reads limits k.strict k.number a c
+then_served left sent calls reads limits k now a b c before same served =
+    serves a b c before (subst (λ i. ServesSession left sent calls reads limits i.strict i.number b c) same served)

@@ -5,6 +5,7 @@ use iova_links::loads::place_of;
 use iova_links::pause::milliseconds;
 use iova_model::step::ClientId;
 use iova_range::limits::MAX_WORKERS;
+use iova_session::link::Link;
 use std::alloc::Global;
 use std::array;
 use std::rt::Clock;
@@ -103,7 +104,8 @@ impl DaemonState {
     }
 }
 
-impl<'e, R: Wait + Clock, N, K, L: Drop, A> MetricsSource for WorkerContext<'e, R, N, K, L, A> {
+impl<'e, R: Wait + Clock, N, K, L: Link + Drop, A> MetricsSource
+    for WorkerContext<'e, R, N, K, L, A> {
     fn metrics(&self) -> DaemonMetrics {
         let round = self.daemon_state.round.load(Ordering::SeqCst);
         let now = milliseconds(self.rt).unwrap_or(round);

@@ -1,5 +1,6 @@
 //! The flusher: rounds beside the workers, and flushes ahead of them.
-ghost use Rattle.iova_keep.specs.Views.{KeepsTally};
+ghost use Rattle.std.specs.Prelude.{◌≡◌};
+ghost use Rattle.iova_daemon.specs.Serving.{RoundsOnThread};
 
 use crate::daemon_state::DaemonState;
 use iova_keep::calls::{flush, timeout};
@@ -55,8 +56,8 @@ where
     /// Makes rounds, with pauses between them, as `serve_sessions` says. Where a round freed many
     /// entries or a flush was made ahead before it, it flushes ahead in place of the next pause.
     pub(crate) fn go_on(&mut self)
-        ensures { KeepsTally self.old.tally self.new.tally (D.calls self.old.sink)
-            (D.calls self.new.sink) }
+        ensures { RoundsOnThread (K.identity self.old.keeper).number self.old.tally self.new.tally
+            (D.calls self.old.sink) (D.calls self.new.sink) }
     {
         self.daemon_state.end_round(milliseconds(self.rt));
         for _ in self.rt.forever() {
@@ -89,8 +90,9 @@ where
     /// here have most likely nothing new. False where it ended early: where no look is to be made,
     /// where all workers have ended, and where a flush is refused, which is a notice.
     fn go_ahead(&mut self) -> bool
-        ensures { KeepsTally self.old.tally self.new.tally (D.calls self.old.sink)
-            (D.calls self.new.sink) }
+        ensures same { K.identity self.new.keeper ≡ K.identity self.old.keeper }
+        ensures rounds { RoundsOnThread (K.identity self.old.keeper).number self.old.tally
+            self.new.tally (D.calls self.old.sink) (D.calls self.new.sink) }
     {
         self.is_busy = false;
         let mut start = self.keeper.stat().start;

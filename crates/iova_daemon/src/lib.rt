@@ -1,12 +1,14 @@
 //! A daemon's threads: a session thread for each post, and a flusher beside them.
 #![tactic(auto)]
 
-ghost use Rattle.std.specs.Prelude.{◌≡◌, ◌+◌, ◌≤◌, [], Ok, Err, IfOk, IfErr, map, vec_len, vec_capacity, slice_get};
+ghost use Rattle.std.specs.Prelude.{◌≡◌, ◌+◌, ◌≤◌, [], None, Ok, Err, IfOk, IfErr, map, take, vec_len, vec_capacity, slice_get, slice_index_or};
 ghost use Rattle.std.specs.Option.{ForSome};
-ghost use Rattle.iova_keep.specs.Views.{KeepsPlace, KeepsTally};
+ghost use Rattle.iova_keep.specs.FlushEvents.{MakesRounds};
 ghost use Rattle.iova_lock.specs.Books.{tally_parts};
-ghost use Rattle.iova_daemon.specs.Serving.{AreKept, CountsWithin, CountsWithinSome, IsServeRefusal};
+ghost use Rattle.iova_daemon.specs.Serving.{CountsWithin, CountsWithinSome, IsServeRefusal, RoundsOnThread, without_part};
+ghost use Rattle.iova_daemon.specs.SessionThreads.{AllServed, ServesPost, starts};
 
+mod accepted;
 mod daemon_state;
 mod flusher;
 mod pool;
@@ -16,7 +18,7 @@ mod worker;
 use crate::daemon_state::DaemonState;
 use crate::flusher::{FLUSH_AHEAD, Flusher};
 use crate::pool::Pool;
-use crate::threads::{KeepsBoth, domains_are_sync, pools_are_sync, posts_are_send};
+use crate::threads::{PostPromise, domains_are_sync, pools_are_sync, posts_are_send};
 use crate::worker::WorkerContext;
 use iova_keep::keep::Keep;
 use iova_keep::look::Look;
@@ -34,13 +36,14 @@ use iova_session::session_limits::SessionLimits;
 use iova_sink::sink::Sink;
 use log::{Log, error};
 use std::alloc::Global;
+use std::marker::PhantomData;
 use std::rt::Clock;
 use std::snapshot::Snapshot;
 use std::sync::Wait;
 use std::thread::{PromisedHandle, Threads};
 use std::{io, thread};
 
-/// What serving leaves.
+/// The domain and the posts after serving.
 #[derive(Drop)]
 pub struct Served<R, B: Names> {
     /// The domain under its lock.
@@ -49,7 +52,7 @@ pub struct Served<R, B: Names> {
     pub posts: Vec<Post<B>>,
 }
 
-/// What serving leaves of the posts, and what they were served by.
+/// The posts after serving, with their sinks and the flusher's sink and tally.
 #[derive(Drop)]
 pub struct ServedBy<B: Names, D> {
     /// The posts, in the order in which they were given.
@@ -62,19 +65,19 @@ pub struct ServedBy<B: Names, D> {
     pub tally: Tally<B>,
 }
 
-/// What is served.
+/// The sessions that a daemon serves.
 #[derive(Clone, Copy, Debug, PartialEq, Eq)]
 pub struct Serving {
-    /// How many sessions; none: sessions without end.
+    /// The number of sessions. None: sessions without end.
     pub sessions: Option<u64>,
-    /// How many of them at a time, at most; 0 is taken as 1.
+    /// The greatest number of sessions at a time; 0 counts as 1.
     pub clients: u64,
     /// How much each of them may ask for.
     pub limits: SessionLimits,
 }
 
 impl Serving {
-    /// How many sessions are served at a time, at most: 1 at least.
+    /// Returns the greatest number of sessions at a time, which is at least 1.
     fn places(self) -> u64 {
         self.clients.max(1)
     }
@@ -85,7 +88,7 @@ impl Serving {
     }
 }
 
-/// What a service is lent, and what it serves.
+/// The runtime, the notices and the sessions of a service.
 #[derive(Drop)]
 pub struct Service<'a, R, N> {
     /// The runtime.
@@ -94,7 +97,7 @@ pub struct Service<'a, R, N> {
     pub alloc: Global,
     /// Where notices go.
     pub notices: &'a N,
-    /// What is served.
+    /// The sessions that it serves.
     pub serving: Serving,
 }
 
@@ -163,10 +166,12 @@ where
 /// serves. While as many sessions are served as there may be at a time nobody leads, so whoever
 /// connects waits.
 ///
-/// A session thread that rests accepts, and sleeps, no longer than a second. An accept that had no
-/// link keeps the number; one that fails uses it up. Once each session had its accept, no more are
-/// accepted (`close`). Session threads stop once no number is left, and also once no link is to
-/// come any more (`has_ended`): then each tries its waiting clients a last time. What is to be done
+/// A session thread that rests accepts, and sleeps, no longer than a second. Another thread's try
+/// that has ended a client wakes it, since the sink answers then. An accept that had no link keeps
+/// the number. The trait allows an accept to fail, which uses the number up; an accept of
+/// `SocketAccept` doesn't fail. Once each session had its accept, no more are accepted (`close`).
+/// Session threads stop once no number is left, and also once no link is to come any more
+/// (`has_ended`): then each tries its waiting clients a last time. What is to be done
 /// beside them (`ControlTask`) has a thread of its own.
 ///
 /// The flusher repeats: it pauses, and stops where the pause says so or all session threads have
@@ -201,6 +206,15 @@ where
     requires parts { ForSome (slice_get posts.items 0) (λ p. 2 ≤ p.seat.tally.parts) }
     ensures posts { IfOk result (λ r. map (λ p. p.seat.worker) r.posts.items
         ≡ map (λ p. p.seat.worker) posts.items) }
+    ensures served { IfOk result (λ r. AllServed L.left L.sent L.calls L.reads
+        (starts service.now.serving.limits
+        (record { number = shared.now.number; strict = shared.now.strict }) None
+        (without_part (map (λ p. p.seat) posts.items)) (map (λ p. p.waiting.items) posts.items)
+        (map D.calls (take (vec_len posts) sinks.items)))
+        (map (λ p. p.seat) r.posts.items) (map (λ p. p.waiting.items) r.posts.items)
+        (map D.calls r.sinks.items)) }
+    ensures flushed { IfOk result (λ r. MakesRounds shared.now.number [] r.tally.past
+        (slice_index_or (map D.calls sinks.items) (vec_len posts) []) (D.calls r.sink)) }
     ensures within { IfOk result (λ r. CountsWithin (map (λ p. p.seat) posts.items)
         (map D.calls sinks.items) (map (λ p. p.seat) r.posts.items) r.tally
         (map D.calls r.sinks.items) (D.calls r.sink)) }
@@ -259,33 +273,41 @@ where
     R: Threads + Wait + Clock + Sync,
     N: Log + Sync,
     B: Names + Send + Sync,
-    K: Keep<B> + Look + Copy + Sync,
+    K: Keep<B> + Look + Copy + Sync + Drop,
     L: Link + Send + Drop,
     A: Accept<L> + ControlTask + Sync,
     D: Sink + Send + Drop,
     P: Pause + Drop,
     requires { vec_len posts ≡ vec_len sinks }
-    ensures kept { IfOk result (λ r. AreKept (map (λ p. p.seat) posts.items)
-        (map D.calls sinks.items) (map (λ p. p.seat) r.posts.items) (map D.calls r.sinks.items)
-        × KeepsTally flusher.entry.tally r.tally (D.calls flusher.entry.sink.sink)
-        (D.calls r.sink)) }
+    ensures kept { IfOk result (λ r. AllServed L.left L.sent L.calls L.reads
+        (starts context.now.serving.limits (K.identity context.now.keeper)
+        (K.domain context.now.keeper) (map (λ p. p.seat) posts.items)
+        (map (λ p. p.waiting.items) posts.items) (map D.calls sinks.items))
+        (map (λ p. p.seat) r.posts.items) (map (λ p. p.waiting.items) r.posts.items)
+        (map D.calls r.sinks.items)
+        × RoundsOnThread (K.identity flusher.entry.keeper).number flusher.entry.tally r.tally
+        (D.calls flusher.entry.sink.sink) (D.calls r.sink)) }
     ensures refusal { IfErr result IsServeRefusal }
 {
-    // for the proof: what threads may share, and what may go to them
-    pools_are_sync::<L>();
-    posts_are_send::<B>();
     thread::scope(
         thread::scope_env(),
         context.rt,
         move |scope| -> Result<ServedBy<B, D>, Refusal>
             requires { vec_len posts ≡ vec_len sinks }
-            ensures kept { IfOk result (λ r. AreKept (map (λ p. p.seat) posts.items)
-                (map D.calls sinks.items) (map (λ p. p.seat) r.posts.items)
+            ensures kept { IfOk result (λ r. AllServed L.left L.sent L.calls L.reads
+                (starts context.entry.now.serving.limits
+                (K.identity context.entry.now.keeper) (K.domain context.entry.now.keeper)
+                (map (λ p. p.seat) posts.items)
+                (map (λ p. p.waiting.items) posts.items) (map D.calls sinks.items))
+                (map (λ p. p.seat) r.posts.items) (map (λ p. p.waiting.items) r.posts.items)
                 (map D.calls r.sinks.items)
-                × KeepsTally flusher.entry.tally r.tally (D.calls flusher.entry.sink.sink)
-                (D.calls r.sink)) }
+                × RoundsOnThread (K.identity flusher.entry.keeper).number flusher.entry.tally
+                r.tally (D.calls flusher.entry.sink.sink) (D.calls r.sink)) }
             ensures refusal { IfErr result IsServeRefusal }
         {
+            // for the proof: what threads may share, and what may go to them
+            pools_are_sync::<L>();
+            posts_are_send::<B>();
             let mut flusher = flusher;
             let (rt, alloc, count) = (context.rt, context.alloc, posts.len());
             // so joining needs no memory
@@ -306,14 +328,23 @@ where
                     unreachable!()
                 };
                 let (thread, worker) = (started.len() as u64, place.seat.worker());
-                let promise = KeepsBoth {
+                let promise: PostPromise<B, K, L, D> = PostPromise {
+                    limits: context.serving.limits,
+                    keeper: Snapshot::of(&context.keeper),
                     post: Snapshot::of(&place),
                     sink: Snapshot::of(&sink),
+                    links: PhantomData,
                 };
                 let work = move || -> (Post<B>, D)
-                    ensures { KeepsPlace place.seat result.0.seat (D.calls sink)
-                        (D.calls result.1) }
-                { context.work(thread, place, sink) };
+                    ensures { ServesPost L.left L.sent L.calls L.reads (record {
+                      limits = context.entry.now.serving.limits;
+                      identity = K.identity context.entry.now.keeper;
+                      domain = K.domain context.entry.now.keeper;
+                      seat = place.seat;
+                      waiting = place.waiting.items;
+                      calls = D.calls sink;
+                    }) result.0.seat result.0.waiting.items (D.calls result.1) }
+                { context.work(thread, context.keeper, place, sink) };
                 match scope.spawn_with(promise, work) {
                     Ok(handle) => started.push_reserved(handle),
                     Err(error) => {
@@ -358,9 +389,9 @@ where
 
 /// Joins each thread, and puts its post and its sink after those that are there.
 #[tactic(auto, using(crate::proofs::Places::more_kept, crate::proofs::Places::none_kept))]
-fn join_all<R: Threads, B: Names + Send, D: Sink + Send + Drop>(
+fn join_all<R: Threads, B: Names + Send, K: Keep<B>, L: Link, D: Sink + Send + Drop>(
     rt: &R,
-    started: Vec<PromisedHandle<(Post<B>, D), KeepsBoth<B, D>>>,
+    started: Vec<PromisedHandle<(Post<B>, D), PostPromise<B, K, L, D>>>,
     back: &mut Vec<Post<B>>,
     given: &mut Vec<D>,
 )
@@ -368,9 +399,16 @@ fn join_all<R: Threads, B: Names + Send, D: Sink + Send + Drop>(
     requires none { given.old.items ≡ [] }
     requires room { vec_len started ≤ vec_capacity back.old }
     requires sinks { vec_len started ≤ vec_capacity given.old }
-    ensures { AreKept (map (λ h. h.promise.post.value.seat) started.items)
-        (map (λ h. D.calls h.promise.sink.value) started.items)
-        (map (λ p. p.seat) back.new.items) (map D.calls given.new.items) }
+    ensures { AllServed L.left L.sent L.calls L.reads (map (λ h. record {
+      limits = h.promise.limits;
+      identity = K.identity h.promise.keeper.value;
+      domain = K.domain h.promise.keeper.value;
+      seat = h.promise.post.value.seat;
+      waiting = h.promise.post.value.waiting.items;
+      calls = D.calls h.promise.sink.value;
+    }) started.items)
+        (map (λ p. p.seat) back.new.items) (map (λ p. p.waiting.items) back.new.items)
+        (map D.calls given.new.items) }
 {
     for handle in started {
         let (post, sink) = handle.join(rt);
@@ -390,6 +428,11 @@ fn split_first<B: Names>(posts: &mut Vec<Post<B>>) -> Tally<B>
         ≡ map (λ p. p.seat.tally.good) posts.old.items }
     ensures parts { tally_parts (map (λ p. p.seat) posts.new.items) + result.parts
         ≡ tally_parts (map (λ p. p.seat) posts.old.items) }
+    ensures past { result.past ≡ [] }
+    ensures seats { map (λ p. p.seat) posts.new.items
+        ≡ without_part (map (λ p. p.seat) posts.old.items) }
+    ensures waiting { map (λ p. p.waiting.items) posts.new.items
+        ≡ map (λ p. p.waiting.items) posts.old.items }
     ensures length { vec_len posts.new ≡ vec_len posts.old }
 {
     posts[0].seat.tally().split()

@@ -4,27 +4,20 @@ ghost use Rattle.std.specs.Prelude.{◌≡◌, ◌<◌};
 ghost use Rattle.iova_range.specs.declared.limits.TheConstants.{MAX_WORKERS};
 
 use crate::Serving;
+use crate::accepted::Accepted;
 use iova_links::control_task::DaemonMetrics;
 use iova_links::loads::{Load, fewest, may_serve, place_of};
 use iova_range::limits::{MAX_WORKERS, RETRY_PAUSE};
+use iova_session::link::Link;
 use std::alloc::Global;
 use std::array;
 use std::rt::Clock;
 use std::sync::{Condvar, Mutex, Wait};
 use std::time::Duration;
 
-/// A link, and the number of the session that is served over it.
-#[derive(Drop)]
-pub(crate) struct Accepted<L> {
-    pub link: L,
-    pub session: u64,
-    /// Whether the session takes the last place.
-    pub is_full: bool,
-}
-
 /// What a post is to do.
 #[derive(Drop)]
-pub(crate) enum Turn<L> {
+pub(crate) enum Turn<L: Link> {
     /// To serve a session.
     Serve(Accepted<L>),
     /// To accept a link for the session of this number.
@@ -37,7 +30,7 @@ pub(crate) enum Turn<L> {
 
 /// The posts of a daemon that serve no session. Threads share it.
 #[derive(Drop)]
-pub(crate) struct Pool<L> {
+pub(crate) struct Pool<L: Link> {
     state: Mutex<State<L>>,
     /// By worker: what its free posts sleep on, so that one of the right worker is woken.
     bells: [Condvar; MAX_WORKERS as usize],
@@ -45,7 +38,7 @@ pub(crate) struct Pool<L> {
     rest: Condvar,
 }
 
-impl<L: Drop> Pool<L> {
+impl<L: Link + Drop> Pool<L> {
     /// No post has come, and none of these sessions is served. There is room for links that are
     /// handed over, one for each of so many posts: none where it is refused.
     pub(crate) fn new(alloc: Global, serving: Serving, posts: usize) -> Option<Pool<L>> {
@@ -116,7 +109,9 @@ impl<L: Drop> Pool<L> {
 
     /// The leader, a post of this worker, has accepted a link, and leads no longer: it serves it
     /// itself, or has handed it over.
-    pub(crate) fn assign<R: Wait>(&self, rt: &R, worker: u64, link: L, rests: bool) -> Turn<L> {
+    pub(crate) fn assign<R: Wait>(&self, rt: &R, worker: u64, link: L, rests: bool) -> Turn<L>
+        requires { L.calls link ≡ 0 }
+    {
         let at = place_of(worker);
         let (handed_to, turn) = self.state.lock(rt).assign(at, link, rests);
         if let Some(other) = handed_to {
@@ -167,6 +162,11 @@ impl<L: Drop> Pool<L> {
         self.state.lock(rt).loads[place_of(worker)].sessions
     }
 
+    /// Wakes a post that rests: it tries its waiting clients at once.
+    pub(crate) fn wake_resting(&self) {
+        self.rest.notify_one();
+    }
+
     /// No session is to come.
     pub(crate) fn end<R: Wait>(&self, rt: &R) {
         self.state.lock(rt).has_ended = true;
@@ -205,7 +205,7 @@ impl<L: Drop> Pool<L> {
 /// Who is free, and what waits for them. Of a worker there are as many free posts in the pool as
 /// are counted, and one for each link that was handed over to it.
 #[derive(Drop)]
-struct State<L> {
+struct State<L: Link> {
     serving: Serving,
     is_led: bool,
     has_ended: bool,
@@ -221,7 +221,7 @@ struct State<L> {
     handed: Vec<(usize, Accepted<L>)>,
 }
 
-impl<L: Drop> State<L> {
+impl<L: Link + Drop> State<L> {
     /// A post goes, which was free where it doesn't rest.
     fn go(&mut self, at: usize, rests: bool) {
         if !rests && let Some(load) = self.loads.get_mut(at) {
@@ -262,7 +262,9 @@ impl<L: Drop> State<L> {
     /// The leader got a link: gives the place of the worker that it was handed over to, if it was,
     /// and what the leader is to do. The leader serves it itself where no post is free, where it is
     /// free itself and its worker is the one, and where there is no room.
-    fn assign(&mut self, at: usize, link: L, rests: bool) -> (Option<usize>, Turn<L>) {
+    fn assign(&mut self, at: usize, link: L, rests: bool) -> (Option<usize>, Turn<L>)
+        requires { L.calls link ≡ 0 }
+    {
         let (session, other) = (self.accepted, fewest(&self.loads, at));
         self.give_way(at, true, rests);
         match other {
@@ -278,6 +280,7 @@ impl<L: Drop> State<L> {
 
     /// A session of the worker at this place begins, over this link.
     fn begin(&mut self, at: usize, link: L, session: u64) -> Accepted<L>
+        requires { L.calls link ≡ 0 }
         ensures { self.new.handed ≡ self.old.handed }
     {
         self.served = self.served.saturating_add(1);
@@ -288,11 +291,7 @@ impl<L: Drop> State<L> {
         if is_full {
             self.full = self.full.wrapping_add(1);
         }
-        Accepted {
-            link,
-            session,
-            is_full,
-        }
+        Accepted::new(link, session, is_full)
     }
 
     /// The leader leads no more, and goes. Its session's number may be used up.

@@ -1,24 +1,23 @@
 //! A session thread of a worker: sessions at one post, one after another.
-ghost use Rattle.std.specs.Prelude.{◌≡◌, Option};
-ghost use Rattle.iova_model.specs.State.{State};
+ghost use Rattle.std.specs.Prelude.{◌≡◌};
 ghost use Rattle.iova_keep.specs.Views.{KeepsPlace};
 ghost use Rattle.iova_session.specs.PostSessions.{between};
-ghost use Rattle.iova_daemon.specs.SessionThreads.{ServesOnThread, IsTried};
+ghost use Rattle.iova_daemon.specs.SessionThreads.{ServesPost, IsTried};
 
 use crate::Serving;
 use crate::daemon_state::DaemonState;
-use crate::pool::{Accepted, Pool, Turn};
+use crate::pool::{Pool, Turn};
 use iova_keep::keep::Keep;
 use iova_keep::look::Look;
 use iova_keep::names::Names;
 use iova_links::accept::Accept;
 use iova_links::control_task::ControlTask;
 use iova_links::noting::{NotingSink, note_end, note_full};
+use iova_model::step::ClientId;
 use iova_range::limits::RETRY_PAUSE;
 use iova_session::link::Link;
 use iova_session::post::Post;
 use iova_session::retry::retry;
-use iova_session::run::run_session_within;
 use iova_sink::sink::Sink;
 use log::Log;
 use std::alloc::Global;
@@ -28,7 +27,7 @@ use std::sync::Wait;
 /// What the threads of a daemon are lent: references, a keeper of the domain, and what they share
 /// beside it.
 #[derive(Drop)]
-pub(crate) struct WorkerContext<'e, R, N, K, L, A> {
+pub(crate) struct WorkerContext<'e, R, N, K, L: Link, A> {
     pub rt: &'e R,
     pub alloc: Global,
     pub notices: &'e N,
@@ -46,26 +45,30 @@ where
     L: Link + Drop,
     A: Accept<L>,
 {
-    /// The session thread of this number: waits at the gate, and then serves sessions at the post,
-    /// each from its first byte to the end of its client, until none is to come. Its waiting
-    /// clients are tried again before each wait in the pool, and so before it takes a session.
+    /// Runs the session thread of this number: waits at the gate, and then serves sessions at the
+    /// post, each from its first byte to the end of its client, until no session is left. It tries
+    /// the post's waiting clients again before each wait in the pool, and so before each session.
+    /// It has one keeper, and can't copy it.
     pub(crate) fn work<B: Names, D: Sink + Drop>(
         &self,
         thread: u64,
+        keeper: K,
         place: Post<B>,
         sink: D,
     ) -> (Post<B>, D)
     where
-        K: Keep<B> + Copy,
-        ensures turns { (left : Option State)
-            × ServesOnThread L.left L.sent L.reads self.now.serving.limits
-            (K.identity self.now.keeper).strict (K.identity self.now.keeper).number
-            (between place.seat place.waiting.items (D.calls sink) (K.domain self.now.keeper))
-            (between result.0.seat result.0.waiting.items (D.calls result.1) left) }
-        ensures place { KeepsPlace place.seat result.0.seat (D.calls sink) (D.calls result.1) }
+        K: Keep<B> + Drop,
+        ensures { ServesPost L.left L.sent L.calls L.reads (record {
+          limits = self.now.serving.limits;
+          identity = K.identity keeper;
+          domain = K.domain keeper;
+          seat = place.seat;
+          waiting = place.waiting.items;
+          calls = D.calls sink;
+        }) result.0.seat result.0.waiting.items (D.calls result.1) }
     {
         let mut post = place;
-        let mut keeper = self.keeper;
+        let mut keeper = keeper;
         let mut sink = NotingSink::new(sink, self.notices);
         let mut goes_on = *self.daemon_state.gate.lock(self.rt);
         let mut noted = 0;
@@ -75,31 +78,16 @@ where
                 return (post, sink.into_sink());
             }
             try_again(&self.daemon_state, &mut keeper, &mut post, &mut sink);
-            noted = self
-                .daemon_state
-                .wait_for(self.rt, thread, noted, &post.waiting);
+            noted = self.note_tried(thread, noted, &post.waiting);
             match self.next(post.seat.worker(), noted > 0) {
                 Turn::Serve(accepted) => {
-                    let Accepted {
-                        mut link,
-                        session,
-                        is_full,
-                    } = accepted;
-                    if is_full {
+                    let session = accepted.session;
+                    if accepted.is_full {
                         note_full(self.notices, self.serving.places());
                     }
                     sink.begin_session();
                     let (alloc, limits) = (self.alloc, self.serving.limits);
-                    let ended = run_session_within(
-                        alloc,
-                        limits,
-                        &mut link,
-                        &mut keeper,
-                        &mut post,
-                        &mut sink,
-                    );
-                    // so there are never more connections than sessions
-                    drop(link);
+                    let ended = accepted.serve(alloc, limits, &mut keeper, &mut post, &mut sink);
                     noted = self
                         .daemon_state
                         .wait_for(self.rt, thread, noted, &post.waiting);
@@ -111,6 +99,17 @@ where
             }
         }
         unreachable!()
+    }
+
+    /// Notes the clients of the session thread that still wait after a try, and returns their
+    /// number. If some of them ended, the sink answers again: a post that rests tries its own at
+    /// once.
+    fn note_tried(&self, thread: u64, before: u64, clients: &[ClientId]) -> u64 {
+        let left = self.daemon_state.wait_for(self.rt, thread, before, clients);
+        if left < before {
+            self.pool.wake_resting();
+        }
+        left
     }
 
     /// The control task's thread: a round after another, until all session threads have ended.
@@ -147,7 +146,7 @@ where
         } else {
             self.accept.accept(limit)
         };
-        // an accept that fails uses up the number; after the last one nobody is accepted any more
+        // the trait allows an accept to fail, which uses up the number; the last number closes it
         let is_used_up = !matches!(accepted, Ok(None));
         if is_used_up && self.serving.are_all(session.wrapping_add(1)) {
             self.accept.close();

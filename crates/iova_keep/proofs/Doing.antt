@@ -126,7 +126,7 @@ pub good-add : (calls : List Call) (c : Call) → good_calls (calls ++ c ∷ [])
 good-add [] c = omega arith
 good-add (x ∷ xs) c = let h = good-add xs c in omega (arith, h)
 
-ended_at_most : (n : ℕ) (ok : Bool) (r : Reply) → ended_well (step.End n ok) r ≤ (if ok then 1 else 0)
+pub ended_at_most : (n : ℕ) (ok : Bool) (r : Reply) → ended_well (step.End n ok) r ≤ (if ok then 1 else 0)
 ended_at_most n true reply.Ended = omega arith
 ended_at_most n false reply.Ended = omega arith
 ended_at_most n ok r = omega arith
@@ -137,17 +137,6 @@ good_within n ok old new domain before now h told =
     let c : Call = Invalidation domain n ok in
     let k : good_calls now ≡ good_calls before + (if ok then 1 else 0) = ap good_calls told ∙ good-add before c in
     omega (arith, h, k)
-
--- an end raises a tally by at most a good call
-pub good_bound : (o : Option Reply) (n : ℕ) (ok : Bool) (old new domain : ℕ) (before now : List Call) → MatchOption o ⊥ (λ r. new ≡ old + ended_well (step.End n ok) r)
-    → now ≡ before ++ Invalidation domain n ok ∷ [] → new + good_calls before ≤ old + good_calls now
-good_bound None n ok old new domain before now h told = absurd h
-good_bound (Some r) n ok old new domain before now h told =
-    let c : Call = Invalidation domain n ok in
-    let e = good-add before c in
-    let f = ended_at_most n ok r in
-    let k : good_calls now ≡ good_calls before + (if ok then 1 else 0) = ap good_calls told ∙ e in
-    omega (arith, h, f, k)
 
 -- Where the keeper's domain may not be known.
 

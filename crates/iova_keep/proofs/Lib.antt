@@ -1,4 +1,6 @@
 mod Doing
+pub mod Rounds
+mod Flushing
 mod Closings
 mod Endings
 mod Releases

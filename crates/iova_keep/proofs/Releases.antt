@@ -16,16 +16,8 @@ use Rattle.iova_keep.specs.declared.unmapped.Unmapped.TheVariants as unmapped
 use Rattle.iova_keep.specs.Views.{SeatState, WhereKnown, begun_of}
 use Rattle.iova_keep.specs.Events.{CallEvent, Ran, Invalidated, sink_calls, Unmapping, run, not_run}
 use Rattle.iova_keep.specs.Releases.{ReleaseFirst, no_flush, flush, ReleaseAgain, no_flush_again, flush_again, ReleaseLast, reached, not_reached, AfterQueued, stays, freed, not_freed, ReleaseRest, refused_again, queued_again, refused_first, queued_first, ring_was_full, ReleasesFirst, ReleasesAgain, ReleasesLast, DoesFollow, DoesReleaseRest, DoesRelease}
-use Rattle.iova_keep.proofs.Doing.{known_both, known_one, good_within}
+use Rattle.iova_keep.proofs.Doing.{known_both, known_one}
 use Rattle.iova_keep.proofs.Endings.{leads_more, sink_calls-more}
-
--- Single holds of a book.
-
--- a hold with an end, and then what follows it, raise a tally by at most the good calls
-pub good_then : (n : ℕ) (ok : Bool) (old mid new domain : ℕ) (before between now : List Call) → mid ≤ old + (if ok then 1 else 0)
-    → between ≡ before ++ Invalidation domain n ok ∷ [] → new + good_calls between ≤ mid + good_calls now → new + good_calls before ≤ old + good_calls now
-good_then n ok old mid new domain before between now h told k =
-    let first : mid + good_calls before ≤ old + good_calls between = good_within n ok old mid domain before between h told in omega (arith, first, k)
 
 -- No hold calls the sink.
 

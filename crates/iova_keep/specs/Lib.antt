@@ -1,4 +1,5 @@
 pub mod Steps
+pub mod FlushEvents
 pub mod Views
 pub mod Events
 pub mod Answers

@@ -6,6 +6,7 @@ use Rattle.iova_range.specs.declared.refusal.Refusal.TheVariants as refusal
 use Rattle.iova_range.specs.Frames.{Frames}
 use Rattle.iova_range.specs.declared.limits.TheConstants.{TALLY_PARTS}
 use Rattle.iova_range.specs.declared.stat.Stat.{Stat}
+use Rattle.iova_model.specs.declared.step.Step.{Step}
 use Rattle.iova_model.specs.declared.step.Step.TheVariants as step
 use Rattle.iova_model.specs.declared.step.Reply.{Reply}
 use Rattle.iova_model.specs.declared.step.Reply.TheVariants as reply
@@ -14,7 +15,10 @@ use Rattle.iova_model.specs.Clients.{Client, client_with, totals_of, totals, no_
 use Rattle.iova_model.specs.Valid.{IsValid}
 use Rattle.iova_model.specs.Promises.{OnePlace, HoldersAreWithin, OwnersAreAligned}
 use Rattle.iova_model.specs.State.{State, counts}
-use Rattle.iova_model.specs.Effects.{MovesTotals, IsAmong, IsReplyTo, add_totals, CountsAddUp, shares_below}
+use Rattle.iova_model.specs.Effects.{MovesTotals, IsAmong, IsReplyTo, ended_well, add_totals, CountsAddUp, shares_below}
+use Rattle.iova_keep.specs.declared.flush_history.FlushEvent.{FlushEvent}
+use Rattle.iova_keep.specs.declared.flush_history.FlushEvent.TheVariants as flush_event
+use Rattle.iova_keep.specs.FlushEvents.{flush_events, MakesRounds}
 use Rattle.iova_keep.specs.declared.ending.Ending.{Ending}
 use Rattle.iova_keep.specs.declared.ending.Ending.TheVariants as ending
 use Rattle.iova_keep.specs.declared.unmapped.Unmapped.{Unmapped}
@@ -23,10 +27,31 @@ use Rattle.iova_keep.specs.declared.ledgers.Blanks.{Blanks}
 use Rattle.iova_keep.specs.Names.{LedgerName, LedgerNames}
 use Rattle.iova_sink.specs.Calls.{Call, good_calls}
 
--- a tally: the flushes that it ended well, and its parts
+-- a tally: the number of flushes that it ended as ones that succeeded, its parts, and the events of
+-- its holder's flushes, oldest first
 pub record TallyState : Type 0 where
   pub good : ℕ
   pub parts : ℕ
+  pub past : List FlushEvent
+
+-- a tally after a step of a flush with this reply
+abbrev pub tally_after : Step → Reply → TallyState → TallyState
+tally_after st r t =
+    record {
+      good = t.good + ended_well st r;
+      parts = t.parts;
+      past = t.past ++ flush_events st r;
+    }
+
+-- a tally after a flush began with this reply, if one did
+abbrev pub tally_begun : Option Reply → TallyState → TallyState
+tally_begun None t = t
+tally_begun (Some b) t = tally_after step.Begin b t
+
+-- a tally after its holder asked a sink for the flush of this number
+abbrev pub tally_asked : ℕ → Bool → TallyState → TallyState
+tally_asked n ok t =
+    record { good = t.good; parts = t.parts; past = t.past ++ flush_event.Asked n ok ∷ [] }
 
 -- what stays of a domain through all calls: its number, and whether it is strict
 pub record Identity : Type 0 where
@@ -81,7 +106,7 @@ seat_with parts worker =
     record {
       worker = worker;
       held = record { count = 0; frames = 0; sum_lo = 0 };
-      tally = record { good = 0; parts = parts };
+      tally = record { good = 0; parts = parts; past = [] };
     }
 
 -- a new seat that is its worker's only one
@@ -264,19 +289,18 @@ pub record KeepsPlace (old new : SeatState) (before now : List Call) : Type 0 wh
   pub parts : new.tally.parts ≡ old.tally.parts
   pub tally : RisesWithin old.tally.good new.tally.good before now
 
--- what calls leave of a tally: its parts, and a count that rose by no more than the good calls of
--- the sink
-pub record KeepsTally (old new : TallyState) (before now : List Call) : Type 0 where
-  pub parts : new.parts ≡ old.parts
-  pub good : RisesWithin old.good new.good before now
+-- what a hold leaves of a seat in which a flush may begin: its worker, and a tally with that begin
+abbrev pub BeginsAtSeat : Option Reply → SeatState → SeatState → Type 0
+BeginsAtSeat begun old new =
+    (new.worker ≡ old.worker) × (new.tally ≡ tally_begun begun old.tally)
 
--- what a hold leaves of a seat in which a flush ends, as `ok` says: its worker, its parts, and a
--- tally that rose by one at most, and only where the flush ended well
-pub record KeepsPlaceAtEnd (old new : SeatState) (ok : Bool) : Type 0 where
+-- what a hold leaves of a seat in which the flush of this number ends by `ok`, and another one may
+-- begin: its worker, and a tally with that end and that begin
+pub record EndsAtSeat (n : ℕ) (ok : Bool) (begun : Option Reply) (old new : SeatState)
+    : Type 0 where
   pub worker : new.worker ≡ old.worker
-  pub parts : new.tally.parts ≡ old.tally.parts
-  pub least : old.tally.good ≤ new.tally.good
-  pub most : new.tally.good ≤ old.tally.good + (if ok then 1 else 0)
+  pub end : Reply
+  pub tally : new.tally ≡ tally_begun begun (tally_after (step.End n ok) end old.tally)
 
 -- Shares.
 

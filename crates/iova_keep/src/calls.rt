@@ -4,6 +4,7 @@ ghost use Rattle.iova_model.specs.Effects.{MovesTotals, IsReplyTo};
 ghost use Rattle.iova_sink.specs.Calls.{Invalidation, failed_calls};
 ghost use Rattle.iova_keep.specs.Views.{TallyState, SeatState, WhereKnown, RisesWithin, queued_or, begun_or, IsUnmapRefusal, IsBeginRefusal, IsFlushRefusal, IsUnmapHeard, KeepsPlace};
 ghost use Rattle.iova_keep.specs.Answers.{DoesUnmap, DoesFlush, DoesTimeout};
+ghost use Rattle.iova_keep.specs.FlushEvents.{MakesRounds};
 
 use crate::keep::{Heard, Keep};
 use crate::names::Names;
@@ -34,14 +35,17 @@ pub fn flush<B: Names, K: Keep<B>, D: Sink>(
     ensures tally { RisesWithin tally.old.good tally.new.good (D.calls sink.old)
         (D.calls sink.new) }
     ensures parts { tally.new.parts ≡ tally.old.parts }
+    ensures rounds { MakesRounds (K.identity keeper.old).number tally.old.past tally.new.past
+        (D.calls sink.old) (D.calls sink.new) }
     ensures same { K.identity keeper.new ≡ K.identity keeper.old }
 {
+    let heard = keeper.begin(tally);
     let Heard {
         reply: _,
         begun,
         queued: _,
         left: _,
-    } = keeper.begin(tally);
+    } = heard;
     let Some(begun) = begun else {
         unreachable!();
     };
@@ -49,7 +53,7 @@ pub fn flush<B: Names, K: Keep<B>, D: Sink>(
         Ok(no) => no,
         Err(refusal) => return Err(refusal),
     };
-    let ok = invalidated(sink, keeper.number(), no);
+    let ok = tally.ask(sink, keeper.number(), no);
     let _ended = keeper.end(tally, no, ok);
     if ok { Ok(no) } else { Err(Refusal::SinkFault) }
 }
@@ -71,6 +75,8 @@ pub fn unmap<B: Names, K: Keep<B>, D: Sink>(
     ensures answer { MatchResult result (λ r. r.lo ≡ lo) IsUnmapRefusal }
     ensures seat { MovesTotals (queued_or result) seat.old.held seat.new.held }
     ensures place { KeepsPlace seat.old seat.new (D.calls sink.old) (D.calls sink.new) }
+    ensures rounds { MakesRounds (K.identity keeper.old).number seat.old.tally.past
+        seat.new.tally.past (D.calls sink.old) (D.calls sink.new) }
     ensures same { K.identity keeper.new ≡ K.identity keeper.old }
 {
     let Heard {
@@ -85,7 +91,7 @@ pub fn unmap<B: Names, K: Keep<B>, D: Sink>(
     let Ok(no) = number(begun) else {
         return answer(lo, reply);
     };
-    let ok = invalidated(sink, keeper.number(), no);
+    let ok = seat.ask(sink, keeper.number(), no);
     answer(lo, keeper.unmap_again(seat, id, lo, no, ok).reply)
 }
 
@@ -107,6 +113,8 @@ pub fn timeout<B: Names, K: Keep<B>, D: Sink>(
     ensures tally { RisesWithin tally.old.good tally.new.good (D.calls sink.old)
         (D.calls sink.new) }
     ensures parts { tally.new.parts ≡ tally.old.parts }
+    ensures rounds { MakesRounds (K.identity keeper.old).number tally.old.past tally.new.past
+        (D.calls sink.old) (D.calls sink.new) }
     ensures same { K.identity keeper.new ≡ K.identity keeper.old }
 {
     // for the proof: that a flush leaves as many workers as there are
@@ -118,13 +126,6 @@ pub fn timeout<B: Names, K: Keep<B>, D: Sink>(
         Ok(_no) => keeper.drain_all(0),
         Err(refusal) => Err(refusal),
     }
-}
-
-/// Calls the sink for a flush of the domain. Whether that was good.
-pub(crate) fn invalidated<D: Sink>(sink: &mut D, domain: u64, no: u64) -> bool
-    ensures { D.calls sink.new ≡ D.calls sink.old ++ Invalidation domain no result ∷ [] }
-{
-    sink.invalidate(domain, no).is_ok()
 }
 
 /// The number of the flush that began, or why none did.

@@ -5,9 +5,9 @@ ghost use Rattle.iova_model.specs.Effects.{IsReplyTo};
 ghost use Rattle.iova_sink.specs.Calls.{failed_calls};
 ghost use Rattle.iova_keep.specs.Views.{TallyState, SeatState, WhereKnown, RisesWithin, IsCloseHeard, IsCloseRefusal, IsBeginHeard, LowersTold, IsLowered, begun_of, KeepsPlace};
 ghost use Rattle.iova_keep.specs.Events.{Answered};
+ghost use Rattle.iova_keep.specs.FlushEvents.{MakesRounds, EndsRounds};
 ghost use Rattle.iova_keep.specs.Answers.{DoesEndClient, DoesRest, Leaves};
 
-use crate::calls::invalidated;
 use crate::ending::{Ending, Why};
 use crate::keep::{Heard, Keep};
 use crate::names::Names;
@@ -35,6 +35,8 @@ pub fn end_client<B: Names, K: Keep<B>, D: Sink>(
     ensures fault { (left : ℕ) → result ≡ Ok (Ending.Waiting left Why.SinkFailed)
         → failed_calls (D.calls sink.old) < failed_calls (D.calls sink.new) }
     ensures place { KeepsPlace seat.old seat.new (D.calls sink.old) (D.calls sink.new) }
+    ensures rounds { MakesRounds (K.identity keeper.old).number seat.old.tally.past
+        seat.new.tally.past (D.calls sink.old) (D.calls sink.new) }
     ensures same { K.identity keeper.new ≡ K.identity keeper.old }
 {
     let before = seat.count();
@@ -76,9 +78,11 @@ fn close_rest<B: Names, K: Keep<B>, D: Sink>(
     ensures fault { result.ok ≡ false → failed_calls (D.calls sink.old) < failed_calls
         (D.calls sink.new) }
     ensures place { KeepsPlace seat.old seat.new (D.calls sink.old) (D.calls sink.new) }
+    ensures rounds { EndsRounds (K.identity keeper.old).number no seat.old.tally.past
+        seat.new.tally.past (D.calls sink.old) (D.calls sink.new) }
     ensures same { K.identity keeper.new ≡ K.identity keeper.old }
 {
-    let ok = invalidated(sink, keeper.number(), no);
+    let ok = seat.ask(sink, keeper.number(), no);
     let heard = keeper.close_again(seat, id, no, ok);
     match flush_begun(&heard) {
         None => LastHold { ok, heard },

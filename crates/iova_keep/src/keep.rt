@@ -5,8 +5,8 @@ ghost use Rattle.iova_range.specs.Frames.{Frames};
 ghost use Rattle.iova_model.specs.Clients.{totals, no_totals};
 ghost use Rattle.iova_model.specs.State.{State};
 ghost use Rattle.iova_model.specs.Valid.{Rises};
-ghost use Rattle.iova_model.specs.Effects.{MovesTotals, IsReplyTo, IsGivenTo, ended_well};
-ghost use Rattle.iova_keep.specs.Views.{TallyState, SeatState, Identity, WhereKnown, IsReserveRefusal, IsOpenRefusal, IsAllocRefusal, IsUnmapHeard, IsBeginHeard, IsReleaseBegin, IsSecondBegin, IsCloseHeard, MovesHeard, QueuedNone, Lowers, KeepsPlaceAtEnd, queued_by, reserved_or, opened_or, given_or, stat_of, IsKept, IsWorker, MovesSharesAlone};
+ghost use Rattle.iova_model.specs.Effects.{MovesTotals, IsReplyTo, IsGivenTo};
+ghost use Rattle.iova_keep.specs.Views.{TallyState, SeatState, Identity, WhereKnown, IsReserveRefusal, IsOpenRefusal, IsAllocRefusal, IsUnmapHeard, IsBeginHeard, IsReleaseBegin, IsSecondBegin, IsCloseHeard, MovesHeard, QueuedNone, Lowers, BeginsAtSeat, EndsAtSeat, tally_after, queued_by, reserved_or, opened_or, given_or, stat_of, IsKept, IsWorker, MovesSharesAlone};
 ghost use Rattle.iova_keep.specs.Batches.{DoesBatch, BatchRuns, TellsAsks};
 ghost use Rattle.iova_keep.specs.Releases.{ReleaseFirst, ReleaseAgain, ReleaseLast, ReleasesFirst, ReleasesAgain, ReleasesLast};
 ghost use Rattle.iova_keep.specs.StepLogs.{StepLog, StoresStep};
@@ -113,7 +113,7 @@ pub trait Keep<B: Names> {
             (UnmapsFirst seat.old id lo result.reply result.begun) }
         ensures left { WhereKnown (domain self.old) (domain self.new) (Leaves id result.left) }
         ensures seat { MovesHeard result.reply seat.old.held seat.new.held }
-        ensures rest { MovesSharesAlone seat.old seat.new }
+        ensures rest { BeginsAtSeat result.begun seat.old seat.new }
         ensures heard { IsUnmapHeard lo result.reply }
         ensures queued { MatchOption result.reply ⊥ (λ r. result.queued ≡ queued_by r) }
         ensures begun { IsBeginHeard result.reply result.begun }
@@ -131,7 +131,7 @@ pub trait Keep<B: Names> {
         ensures seat { MovesHeard result.reply seat.old.held seat.new.held }
         ensures ended { WhereKnown (domain self.old) (domain self.new)
             (RaisesByEnd seat.old.tally.good seat.new.tally.good no ok) }
-        ensures place { KeepsPlaceAtEnd seat.old seat.new ok }
+        ensures place { EndsAtSeat no ok None seat.old seat.new }
         ensures heard { IsUnmapHeard lo result.reply }
         ensures queued { MatchOption result.reply ⊥ (λ r. result.queued ≡ queued_by r) }
         ensures begun { result.begun ≡ None };
@@ -142,7 +142,8 @@ pub trait Keep<B: Names> {
         ensures log { MatchOption result.begun ⊥
             (λ b. StoresStep (log self.old) Step.Begin b (log self.new)) }
         ensures domain { WhereKnown (domain self.old) (domain self.new) (Begins result.begun) }
-        ensures tally { tally.new ≡ tally.old }
+        ensures tally { MatchOption result.begun ⊥
+            (λ b. tally.new ≡ tally_after Step.Begin b tally.old) }
         ensures heard { MatchOption result.begun ⊥ (λ b. IsReplyTo Step.Begin b) }
         ensures none { (result.reply ≡ None) × (result.queued ≡ no_totals) × (result.left ≡ 0) };
 
@@ -153,9 +154,8 @@ pub trait Keep<B: Names> {
         ensures log { MatchOption result.reply ⊥
             (λ r. StoresStep (log self.old) (Step.End no ok) r (log self.new)) }
         ensures domain { WhereKnown (domain self.old) (domain self.new) (Ends no ok result.reply) }
-        ensures good { MatchOption result.reply ⊥
-            (λ r. tally.new.good ≡ tally.old.good + ended_well (Step.End no ok) r) }
-        ensures parts { tally.new.parts ≡ tally.old.parts }
+        ensures tally { MatchOption result.reply ⊥
+            (λ r. tally.new ≡ tally_after (Step.End no ok) r tally.old) }
         ensures heard { MatchOption result.reply ⊥ (λ r. IsReplyTo (Step.End no ok) r) }
         ensures none { (result.begun ≡ None) × (result.queued ≡ no_totals) × (result.left ≡ 0) };
 
@@ -170,7 +170,7 @@ pub trait Keep<B: Names> {
             (ClosesFirst seat.old seat.new.held id result.reply result.begun) }
         ensures left { WhereKnown (domain self.old) (domain self.new) (Leaves id result.left) }
         ensures seat { Lowers result.queued seat.old.held seat.new.held }
-        ensures rest { MovesSharesAlone seat.old seat.new }
+        ensures rest { BeginsAtSeat result.begun seat.old seat.new }
         ensures heard { IsCloseHeard result.reply }
         ensures begun { IsBeginHeard result.reply result.begun }
         ensures full { result.begun ≡ None → result.reply ≢ Some (Reply.Refused Refusal.RingFull) };
@@ -189,7 +189,7 @@ pub trait Keep<B: Names> {
         ensures seat { Lowers result.queued seat.old.held seat.new.held }
         ensures ended { WhereKnown (domain self.old) (domain self.new)
             (RaisesByEnd seat.old.tally.good seat.new.tally.good no ok) }
-        ensures place { KeepsPlaceAtEnd seat.old seat.new ok }
+        ensures place { EndsAtSeat no ok result.begun seat.old seat.new }
         ensures heard { IsCloseHeard result.reply }
         ensures begun { IsBeginHeard result.reply result.begun }
         ensures goes_on { result.begun ≢ None → seat.new.held.count < seat.old.held.count };
@@ -205,7 +205,7 @@ pub trait Keep<B: Names> {
             (ReleasesFirst (identity self.old).strict seat.old id lo result.reply result.begun) }
         ensures left { WhereKnown (domain self.old) (domain self.new) (Leaves id result.left) }
         ensures seat { MovesHeard result.reply seat.old.held seat.new.held }
-        ensures rest { MovesSharesAlone seat.old seat.new }
+        ensures rest { BeginsAtSeat result.begun seat.old seat.new }
         ensures heard { IsUnmapHeard lo result.reply }
         ensures queued { MatchOption result.reply ⊥ (λ r. result.queued ≡ queued_by r) }
         ensures begun { IsReleaseBegin result.reply result.begun }
@@ -235,7 +235,7 @@ pub trait Keep<B: Names> {
         ensures seat { MovesHeard result.reply seat.old.held seat.new.held }
         ensures ended { WhereKnown (domain self.old) (domain self.new)
             (RaisesByEnd seat.old.tally.good seat.new.tally.good no ok) }
-        ensures place { KeepsPlaceAtEnd seat.old seat.new ok }
+        ensures place { EndsAtSeat no ok result.begun seat.old seat.new }
         ensures heard { IsUnmapHeard lo result.reply }
         ensures queued { MatchOption result.reply ⊥ (λ r. result.queued ≡ queued_by r) }
         ensures begun { IsSecondBegin result.reply result.begun }
@@ -254,7 +254,7 @@ pub trait Keep<B: Names> {
         ensures held { seat.new.held ≡ seat.old.held }
         ensures ended { WhereKnown (domain self.old) (domain self.new)
             (RaisesByEnd seat.old.tally.good seat.new.tally.good no ok) }
-        ensures place { KeepsPlaceAtEnd seat.old seat.new ok };
+        ensures place { EndsAtSeat no ok None seat.old seat.new };
 
     /// Drains every ring, 0 first, into the magazines of worker `by`, and gives how many entries
     /// that frees. Refused by `NoWorker`, where the domain has no such worker; then nothing has

@@ -173,8 +173,7 @@ impl<B: Names> Ledgers<B> {
         requires { good ≡ self.old.ended + 1 }
         ensures shares { self.new.shares ≡ self.old.shares }
         ensures ended { self.new.ended ≡ good }
-        ensures good { tally.new.good ≡ tally.old.good + 1 }
-        ensures parts { tally.new.parts ≡ tally.old.parts }
+        ensures tally { tally.new ≡ record tally.old { good = tally.old.good + 1 } }
     {
         // for the proof: this is a number, and no share is above its total
         let _good = good;

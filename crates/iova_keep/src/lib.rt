@@ -6,6 +6,7 @@ pub mod ask;
 pub mod calls;
 pub mod closing;
 pub mod ending;
+pub mod flush_history;
 pub mod keep;
 pub mod ledgers;
 pub mod look;

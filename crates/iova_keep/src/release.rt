@@ -4,8 +4,9 @@ ghost use Rattle.std.specs.Prelude.{◌≡◌, ◌+◌, ◌≤◌, ◌++◌, ◌
 ghost use Rattle.iova_model.specs.Effects.{MovesTotals};
 ghost use Rattle.iova_keep.specs.Views.{TallyState, SeatState, WhereKnown, RisesWithin, IsUnmapRefusal, unmapped_or, range_of, KeepsPlace};
 ghost use Rattle.iova_keep.specs.Releases.{DoesRelease, DoesReleaseRest, DoesFollow};
+ghost use Rattle.iova_keep.specs.FlushEvents.{MakesRounds, EndsRounds, EndsAnyRounds};
 
-use crate::calls::{answer, invalidated};
+use crate::calls::answer;
 use crate::closing::flush_begun;
 use crate::keep::Keep;
 use crate::names::Names;
@@ -39,6 +40,8 @@ pub fn release<B: Names, K: Keep<B>, D: Sink>(
     ensures answer { MatchResult result (λ u. (range_of u).lo ≡ lo) IsUnmapRefusal }
     ensures seat { MovesTotals (unmapped_or result) seat.old.held seat.new.held }
     ensures place { KeepsPlace seat.old seat.new (D.calls sink.old) (D.calls sink.new) }
+    ensures rounds { MakesRounds (K.identity keeper.old).number seat.old.tally.past
+        seat.new.tally.past (D.calls sink.old) (D.calls sink.new) }
     ensures same { K.identity keeper.new ≡ K.identity keeper.old }
 {
     let heard = keeper.release_first(seat, id, lo);
@@ -68,9 +71,11 @@ fn try_again<B: Names, K: Keep<B>, D: Sink>(
     ensures answer { MatchResult result (λ u. (range_of u).lo ≡ lo) IsUnmapRefusal }
     ensures seat { MovesTotals (unmapped_or result) seat.old.held seat.new.held }
     ensures place { KeepsPlace seat.old seat.new (D.calls sink.old) (D.calls sink.new) }
+    ensures rounds { EndsRounds (K.identity keeper.old).number no seat.old.tally.past
+        seat.new.tally.past (D.calls sink.old) (D.calls sink.new) }
     ensures same { K.identity keeper.new ≡ K.identity keeper.old }
 {
-    let ok = invalidated(sink, keeper.number(), no);
+    let ok = seat.ask(sink, keeper.number(), no);
     let heard = keeper.release_again(seat, id, lo, no, ok);
     let begun = flush_begun(&heard);
     match answer(lo, heard.reply) {
@@ -95,12 +100,14 @@ fn follow<B: Names, K: Keep<B>, D: Sink>(
     ensures range { range_of result ≡ range }
     ensures held { seat.new.held ≡ seat.old.held }
     ensures place { KeepsPlace seat.old seat.new (D.calls sink.old) (D.calls sink.new) }
+    ensures rounds { EndsAnyRounds (K.identity keeper.old).number begun seat.old.tally.past
+        seat.new.tally.past (D.calls sink.old) (D.calls sink.new) }
     ensures same { K.identity keeper.new ≡ K.identity keeper.old }
 {
     let Some(no) = begun else {
         return Unmapped::Queued(range);
     };
-    let ok = invalidated(sink, keeper.number(), no);
+    let ok = seat.ask(sink, keeper.number(), no);
     if keeper.release_last(seat, no, ok) {
         Unmapped::Freed(range)
     } else {

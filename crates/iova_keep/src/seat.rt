@@ -1,11 +1,16 @@
 //! What a seat at a domain keeps of the domain's totals.
-ghost use Rattle.std.specs.Prelude.{◌≡◌, ◌+◌, ◌≤◌};
+ghost use Rattle.std.specs.Prelude.{◌≡◌, ◌+◌, ◌≤◌, ◌++◌, []};
 ghost use Rattle.iova_model.specs.Clients.{no_totals};
-ghost use Rattle.iova_keep.specs.Views.{TallyState, SeatState, IsWorker};
+ghost use Rattle.iova_sink.specs.Calls.{with_call};
+ghost use Rattle.iova_keep.specs.FlushEvents.{flush_events};
+ghost use Rattle.iova_keep.specs.Views.{TallyState, SeatState, IsWorker, tally_asked};
 
+use crate::flush_history::{FlushEvent, FlushHistory};
 use crate::names::{CountOf, FramesOf, GoodOf, Names, SumLoOf};
+use iova_model::step::{Reply, Step};
 use iova_model::totals::Totals;
 use iova_range::range::Range;
+use iova_sink::sink::Sink;
 use std::marker::Model;
 use std::sync::ledger::Share;
 
@@ -15,6 +20,7 @@ pub struct Tally<B: Names> {
     pub(crate) good: u64,
     pub(crate) parts: u64,
     pub(crate) share: Share<GoodOf<B>>,
+    pub(crate) past: FlushHistory,
 }
 
 /// Drops its parts. The proof stands here, once for all crates above.
@@ -24,6 +30,7 @@ impl<B: Names> Drop for Tally<B> {
             good: _,
             parts: _,
             share: _,
+            past: _,
         } = self;
     }
 }
@@ -34,7 +41,7 @@ impl<B: Names> Model for Tally<B> {
 
     ghost Value = { TallyState };
 
-    ghost view = { λ t. record { good = t.good; parts = t.parts } };
+    ghost view = { λ t. record { good = t.good; parts = t.parts; past = t.past } };
 
     ghost invariant = { λ t. (t.share.amount ≡ t.good) × (t.share.parts ≡ t.parts)
         × (1 ≤ t.parts) };
@@ -44,12 +51,13 @@ impl<B: Names> Tally<B> {
     /// A tally at 0, with so many parts of the ledger.
     pub(crate) fn new(parts: u64, share: Share<GoodOf<B>>) -> Tally<B>
         requires { (share.amount ≡ 0) × (share.parts ≡ parts) × (1 ≤ parts) }
-        ensures { result ≡ record { good = 0; parts = parts } }
+        ensures { result ≡ record { good = 0; parts = parts; past = [] } }
     {
         Tally {
             good: 0,
             parts,
             share,
+            past: FlushHistory::new(),
         }
     }
 
@@ -71,16 +79,43 @@ impl<B: Names> Tally<B> {
     /// A new tally at 0, with one part of this one.
     pub fn split(&mut self) -> Tally<B>
         requires { 2 ≤ self.old.parts }
-        ensures new { result ≡ record { good = 0; parts = 1 } }
+        ensures new { result ≡ record { good = 0; parts = 1; past = [] } }
         ensures good { self.new.good ≡ self.old.good }
         ensures parts { self.new.parts + 1 ≡ self.old.parts }
+        ensures past { self.new.past ≡ self.old.past }
     {
         self.parts -= 1;
         Tally {
             good: 0,
             parts: 1,
             share: self.share.split_off(1, 0),
+            past: FlushHistory::new(),
         }
+    }
+
+    /// Appends the event of a step of a flush with this reply: that it began, or that it ended. A
+    /// refused step is no event.
+    pub fn note(&mut self, step: Step, reply: &Reply)
+        ensures { self.new ≡ record self.old
+            { past = self.old.past ++ flush_events step reply.now } }
+    {
+        match (step, reply) {
+            (Step::Begin, Reply::Begun(no)) => self.past.add(FlushEvent::Began(*no)),
+            (Step::End { no, ok }, Reply::Ended) => self.past.add(FlushEvent::Ended(no, ok)),
+            _ => {}
+        }
+    }
+
+    /// Asks the sink to invalidate what the domain of this number has unmapped, for the flush of
+    /// the number `no`, and appends that event. Returns whether the flush succeeded. No other
+    /// function appends an answer.
+    pub(crate) fn ask<D: Sink>(&mut self, sink: &mut D, domain: u64, no: u64) -> bool
+        ensures calls { D.calls sink.new ≡ with_call (D.calls sink.old) domain no result }
+        ensures tally { self.new ≡ tally_asked no result self.old }
+    {
+        let ok = sink.invalidate(domain, no).is_ok();
+        self.past.add(FlushEvent::Asked(no, ok));
+        ok
     }
 
     /// Its share of the ledger: all its parts, and what it counted.
@@ -92,6 +127,7 @@ impl<B: Names> Tally<B> {
             good: _,
             parts: _,
             share,
+            past: _,
         } = self;
         share
     }
@@ -193,6 +229,14 @@ impl<B: Names> Seat<B> {
         ensures value { result.now ≡ self.old.tally }
     {
         &mut self.tally
+    }
+
+    /// Asks the sink for a flush, and appends that to the seat's own tally: see `Tally::ask`.
+    pub(crate) fn ask<D: Sink>(&mut self, sink: &mut D, domain: u64, no: u64) -> bool
+        ensures calls { D.calls sink.new ≡ with_call (D.calls sink.old) domain no result }
+        ensures seat { self.new ≡ record self.old { tally = tally_asked no result self.old.tally } }
+    {
+        self.tally.ask(sink, domain, no)
     }
 
     /// The worker, one of the domain's.

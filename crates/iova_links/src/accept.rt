@@ -1,12 +1,15 @@
 //! Where a daemon's links come from.
-use iova_session::link::LinkFault;
+ghost use Rattle.std.specs.Prelude.{◌≡◌, IfOk, IfSome};
 
-/// Gives links, one a call, to several threads at a time.
-pub trait Accept<L> {
-    /// Waits for the next link, where a limit is given no longer than so many milliseconds. None
-    /// where none came, or another thread had it. One that can't be had is a fault, and the next
-    /// call may have one.
-    fn accept(&self, limit: Option<u64>) -> Result<Option<L>, LinkFault>;
+use iova_session::link::{Link, LinkFault};
+
+/// Accepts links, one in a call, for several threads at a time.
+pub trait Accept<L: Link> {
+    /// Waits for the next link, for at most `limit` milliseconds if there is a limit. Nothing was
+    /// read from the link yet, and nothing was written to it. None if no link came, or if another
+    /// thread took it. `LinkFault` if the link can't be accepted; the next call may accept one.
+    fn accept(&self, limit: Option<u64>) -> Result<Option<L>, LinkFault>
+        ensures unused { IfOk result (λ o. IfSome o (λ link. L.calls link ≡ 0)) };
 
     /// No session is to come: whoever connects from now on is refused, where that can be done.
     fn close(&self) {}

@@ -2,7 +2,7 @@
 use crate::accept::Accept;
 use iova_keep::look::Look;
 use iova_model::step::ClientId;
-use iova_session::link::LinkFault;
+use iova_session::link::{Link, LinkFault};
 
 /// The numbers of a daemon, but for its domain.
 #[derive(Clone, Copy, Debug, PartialEq, Eq)]
@@ -71,7 +71,7 @@ impl<'a, A, X> WithControl<'a, A, X> {
     }
 }
 
-impl<'a, L, A: Accept<L>, X> Accept<L> for WithControl<'a, A, X> {
+impl<'a, L: Link, A: Accept<L>, X> Accept<L> for WithControl<'a, A, X> {
     fn accept(&self, limit: Option<u64>) -> Result<Option<L>, LinkFault> {
         self.accept.accept(limit)
     }

@@ -1,5 +1,5 @@
 //! A sink that several threads share.
-ghost use Rattle.std.specs.Prelude.{◌≡◌, ◌++◌, [], true, is_ok, Ok};
+ghost use Rattle.std.specs.Prelude.{◌≡◌, ◌++◌, [], true, false, is_ok, is_some, Ok};
 ghost use Rattle.iova_sink.specs.Calls.{Invalidation, Gone, with_call, with_gone};
 ghost use Rattle.iova_links.specs.LockedSinks.{WasCalled};
 
@@ -99,7 +99,7 @@ pub struct LockedSink<'a, R, D> {
     is_silent: bool,
     /// A call had no answer while this thread waited for a turn: its own is to fail.
     was_silent: bool,
-    /// That this thread has the sink to itself.
+    /// That this thread has the sink to itself: only the sink's turnstile makes one.
     passage: Option<Passage<'a>>,
 }
 
@@ -176,14 +176,20 @@ impl<'a, R: Wait, D: Sink> Sink for LockedSink<'a, R, D> {
         told
     }
 
-    fn lock(&mut self) {
+    fn lock(&mut self)
+        ensures calls { self.new.calls ≡ self.old.calls }
+        ensures locked { is_some self.new.passage ≡ true }
+    {
         let before = self.sink.unanswered.load(SeqCst);
         self.passage = Some(self.sink.way.pass(self.rt));
         self.is_silent = self.was_silent || self.sink.unanswered.load(SeqCst) != before;
         self.was_silent = false;
     }
 
-    fn unlock(&mut self) {
+    fn unlock(&mut self)
+        ensures calls { self.new.calls ≡ self.old.calls }
+        ensures unlocked { is_some self.new.passage ≡ false }
+    {
         self.is_silent = false;
         self.passage = None;
         self.sink.end_turn();

@@ -6,21 +6,23 @@ use crate::signals::Signals;
 use iova_session::link::{Link, LinkFault};
 use iova_sink::count::Count;
 use iova_sink::device::bytes_taken;
-use iova_sink::soon::{SpinBudget, read_from, receive};
+use iova_sink::socket_calls::{SocketCalls, SystemCalls};
+use iova_sink::soon::{SpinBudget, read_from, write_to};
 use libc::EAGAIN;
-use libc::net::{MSG_DONTWAIT, MSG_NOSIGNAL, POLLIN, poll, recv, send};
+use libc::net::{POLLIN, poll};
 use libc::types::pollfd;
 use memchr::memchr_iter;
 use std::io;
-use std::io::{ErrorKind, Write};
+use std::io::ErrorKind;
 use std::marker::Model;
+use std::net::Shutdown;
 use std::os::fd::AsRawFd;
 use std::os::unix::net::UnixStream;
 use std::sync::Wait;
 use std::time::Duration;
 
-/// How long a session's peer is waited for, in turns after each of which it is seen whether the
-/// daemon stops.
+/// The time that a link waits for its client, in turns. After each turn it looks whether the daemon
+/// stops.
 #[derive(Clone, Copy, Debug)]
 pub struct TimeOuts {
     /// The time of a turn; none: one turn without an end.
@@ -49,8 +51,8 @@ const FREED: &[u8] = b"freed ";
 /// A short read makes one turn, and the next read goes on with the count. A read of a daemon that
 /// stops finds the end. Where it is the only link, it looks a while for what comes before it
 /// sleeps; where links are few, it waits by a poll behind a run of requests. Contracts see the
-/// numbers of its reads, its failures and the reads that found the end; what bytes come and go, no
-/// contract can say.
+/// numbers of its calls, its reads, its failures and the reads that found the end; what bytes come
+/// and go, no contract can say.
 pub struct ServedLink<'a, R> {
     rt: &'a R,
     signals: &'a Signals,
@@ -59,8 +61,9 @@ pub struct ServedLink<'a, R> {
     spins: SpinBudget,
     /// Whether the last read found a run of several requests.
     in_runs: bool,
-    /// How many turns its peer may still be silent.
+    /// The number of turns for which its client may still be silent.
     left: u64,
+    calls: Count,
     reads: Count,
     failed: Count,
     ended: Count,
@@ -77,6 +80,7 @@ impl<'a, R> Drop for ServedLink<'a, R> {
             spins: _,
             in_runs: _,
             left: _,
+            calls: _,
             reads: _,
             failed: _,
             ended: _,
@@ -90,7 +94,12 @@ impl<'a, R> Model for ServedLink<'a, R> {
 
     ghost Value = { LinkCounts };
 
-    ghost view = { λ l. record { reads = l.reads; failures = l.failed; ends = l.ended } };
+    ghost view = { λ l. record {
+      calls = l.calls;
+      reads = l.reads;
+      failures = l.failed;
+      ends = l.ended;
+    } };
 }
 
 impl<'a, R> ServedLink<'a, R> {
@@ -102,7 +111,8 @@ impl<'a, R> ServedLink<'a, R> {
         time_outs: TimeOuts,
         stream: UnixStream,
     ) -> io::Result<ServedLink<'a, R>>
-        ensures { IfOk result (λ l. l ≡ record { reads = 0; failures = 0; ends = 0 }) }
+        ensures { IfOk result
+            (λ l. l ≡ record { calls = 0; reads = 0; failures = 0; ends = 0 }) }
     {
         if time_outs.turn.is_some() {
             stream.set_read_timeout(time_outs.turn)?;
@@ -117,6 +127,7 @@ impl<'a, R> ServedLink<'a, R> {
             spins: SpinBudget::new(),
             in_runs: false,
             left: time_outs.turns,
+            calls: Count::new(),
             reads: Count::new(),
             failed: Count::new(),
             ended: Count::new(),
@@ -131,6 +142,8 @@ impl<'a, R: Wait> Link for ServedLink<'a, R> {
 
     ghost sent = { λ l. None };
 
+    ghost calls = { λ l. l.calls };
+
     ghost reads = { λ l. l.reads };
 
     ghost failures = { λ l. l.failures };
@@ -138,6 +151,7 @@ impl<'a, R: Wait> Link for ServedLink<'a, R> {
     ghost ends = { λ l. l.ends };
 
     fn read(&mut self, buf: &mut [u8]) -> Result<usize, LinkFault> {
+        self.calls.up();
         self.reads.up();
         let read = match read_received(
             self.signals,
@@ -165,6 +179,7 @@ impl<'a, R: Wait> Link for ServedLink<'a, R> {
         };
         let Ok(n) = read else {
             self.failed.up();
+            end_stream(&self.stream);
             return Err(LinkFault);
         };
         if n == 0 && !buf.is_empty() {
@@ -174,7 +189,8 @@ impl<'a, R: Wait> Link for ServedLink<'a, R> {
     }
 
     fn write(&mut self, bytes: &[u8]) -> Result<usize, LinkFault> {
-        let written = match send_now(&self.stream, bytes) {
+        self.calls.up();
+        let written = match SystemCalls.send(&self.stream, bytes) {
             Ok(n) if n > 0 => Some(n),
             sent => sent_behind(
                 self.rt,
@@ -192,10 +208,18 @@ impl<'a, R: Wait> Link for ServedLink<'a, R> {
             }
             None => {
                 self.failed.up();
+                end_stream(&self.stream);
                 Err(LinkFault)
             }
         }
     }
+}
+
+/// Ends the stream of a link that failed. A client that was only silent finds the end before its
+/// ranges are given to others. If the client is gone, the call fails and changes nothing.
+#[inline(never)]
+fn end_stream(stream: &UnixStream) {
+    let _ended = stream.shutdown(Shutdown::Both);
 }
 
 /// The result of a read without a turn of its own.
@@ -225,7 +249,7 @@ fn read_received(
         return ReadNow::Nothing;
     }
     if signals.is_alone() {
-        return match receive_now(stream, buf) {
+        return match SystemCalls.receive(stream, buf, false) {
             Ok(n) => ReadNow::Read(n),
             Err(error) if error == EAGAIN => ReadNow::Nothing,
             Err(error) => ReadNow::Failed(error),
@@ -236,7 +260,7 @@ fn read_received(
             return ReadNow::Failed(error);
         }
     }
-    match receive(stream, buf) {
+    match SystemCalls.receive(stream, buf, true) {
         Ok(n) => ReadNow::Read(n),
         Err(error) => ReadNow::Failed(error),
     }
@@ -245,10 +269,10 @@ fn read_received(
 /// Waits until something stands in the connection, for a turn at most. Where nothing came,
 /// `EAGAIN`; where the call failed, the number of the system's error.
 ///
-/// A peer that reads its answers wakes whoever waits in a read of the other end, though nothing has
-/// come: of bytes taken from a socket the system notifies its other end by the queue at which a
+/// A client that reads its answers wakes a thread that waits in a read of this end, though nothing
+/// has come: of bytes taken from a socket the system notifies its other end by the queue at which a
 /// read waits too. A poll reports only what it asks for. It is one call more, and pays where the
-/// peer has a run of answers to go through before it asks again.
+/// client has a run of answers to go through before it asks again.
 #[inline(never)]
 fn wait_for(stream: &UnixStream, turn: Option<Duration>) -> Result<(), i32> {
     let mut asked = [pollfd {
@@ -271,20 +295,6 @@ fn milliseconds_of(turn: Option<Duration>) -> i32 {
     match turn {
         Some(turn) => i32::try_from(turn.as_millis()).unwrap_or(i32::MAX),
         None => -1,
-    }
-}
-
-/// Reads what stands in the connection, and doesn't wait. Where that fails, the number of the
-/// system's error: `EAGAIN` where nothing stands there.
-#[inline(always)]
-fn receive_now(stream: &UnixStream, buffer: &mut [u8]) -> Result<usize, i32>
-    ensures { IfOk result (λ n. n ≤ length buffer.new) }
-{
-    let read = unsafe { recv(stream.as_raw_fd(), buffer, MSG_DONTWAIT) };
-    if read < 0 {
-        Err(os::errno())
-    } else {
-        Ok(read as usize)
     }
 }
 
@@ -388,9 +398,9 @@ fn read_once(
         return Ok(Some(0));
     }
     let read = if signals.is_alone() {
-        spins.read(stream, buf)
+        spins.read(&mut SystemCalls, stream, buf)
     } else {
-        read_from(stream, buf)
+        read_from(&mut SystemCalls, stream, buf)
     };
     if is_to_be_tried_again(&read, left) {
         return Ok(None);
@@ -402,19 +412,6 @@ fn read_once(
     Ok(Some(read?))
 }
 
-/// Writes what finds room in a turn. Where that fails, the number of the system's error.
-#[inline(always)]
-fn send_now(stream: &UnixStream, bytes: &[u8]) -> Result<usize, i32>
-    ensures { IfOk result (λ n. n ≤ length bytes.now) }
-{
-    let sent = unsafe { send(stream.as_raw_fd(), bytes, MSG_NOSIGNAL) };
-    if sent < 0 {
-        Err(os::errno())
-    } else {
-        Ok(sent as usize)
-    }
-}
-
 /// Writes what finds room within the time-outs, behind a first call with this result. It writes
 /// nothing more once the daemon stops and there is no room. None where a call failed, or took none
 /// of some bytes.
@@ -423,7 +420,7 @@ fn sent_behind<R: Wait>(
     rt: &R,
     signals: &Signals,
     time_outs: TimeOuts,
-    mut stream: &UnixStream,
+    stream: &UnixStream,
     sent: Result<usize, i32>,
     bytes: &[u8],
 ) -> Option<usize>
@@ -440,7 +437,7 @@ fn sent_behind<R: Wait>(
         return bytes_taken(written, bytes.len());
     }
     for _ in rt.forever() {
-        let written = stream.write(bytes);
+        let written = write_to(&mut SystemCalls, stream, bytes);
         if signals.is_stopping() || !is_to_be_tried_again(&written, &mut left) {
             return bytes_taken(written, bytes.len());
         }

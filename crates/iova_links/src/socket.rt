@@ -1,4 +1,6 @@
 //! Links over the connections to a Unix socket.
+ghost use Rattle.std.specs.Prelude.{◌≡◌, IfOk, IfSome};
+
 use crate::accept::Accept;
 use crate::dial::{Dial, UnixNet};
 use crate::made_file::MadeFile;
@@ -72,7 +74,9 @@ impl<'a, R: AllocGlobal + Dial + Wait, N: Log> SocketAccept<'a, R, N> {
 
     /// The next connection; where none stands there, it is waited for. None where none came, or
     /// another thread had it.
-    fn next(&self, limit: Option<u64>) -> io::Result<Option<ServedLink<'a, R>>> {
+    fn next(&self, limit: Option<u64>) -> io::Result<Option<ServedLink<'a, R>>>
+        ensures { IfOk result (λ o. IfSome o (λ link. link.calls ≡ 0)) }
+    {
         if let Some(link) = self.pending_link()? {
             return Ok(Some(link));
         }
@@ -96,7 +100,9 @@ impl<'a, R: AllocGlobal + Dial + Wait, N: Log> SocketAccept<'a, R, N> {
     }
 
     /// The connection that stands there, if one does.
-    fn pending_link(&self) -> io::Result<Option<ServedLink<'a, R>>> {
+    fn pending_link(&self) -> io::Result<Option<ServedLink<'a, R>>>
+        ensures { IfOk result (λ o. IfSome o (λ link. link.calls ≡ 0)) }
+    {
         match self.accepted()? {
             Some(stream) => {
                 let link = ServedLink::new(self.rt, self.signals, self.time_outs, stream)?;
@@ -187,8 +193,8 @@ impl<'a, R: AllocGlobal + Dial + Clock + Wait, N: Log> Accept<ServedLink<'a, R>>
     }
 }
 
-/// Accepts whoever waits at the listener, and closes the connection. What came on it is read first:
-/// else the peer would get a reset.
+/// Accepts each client that waits at the listener, and closes the connection. It reads the client's
+/// bytes first: otherwise the client would get a reset.
 fn hang_up(listener: &UnixListener) {
     for _ in 0..MAX_WAITING {
         let Ok((mut stream, _peer)) = listener.accept() else {

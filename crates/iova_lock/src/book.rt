@@ -12,7 +12,7 @@ ghost use Rattle.iova_keep.specs.Steps.{Takes, IsGivenWithin, IsDrainReply};
 ghost use Rattle.iova_keep.specs.StepLogs.{StepLog, StoresStep, IsRecorded, is_recording, new_log};
 ghost use Rattle.iova_keep.specs.Events.{Does, Unmapping, IsShort, Closing, Draining, rings_from};
 ghost use Rattle.iova_lock.specs.Books.{BookState, DoesInBook, IsSame, AppendsNewer, HoldsInOrder, by_seat, by_tally, new_book, steps_in, IsBook};
-ghost use Rattle.iova_keep.specs.Views.{AreBlanksOf, TallyState, SeatState, Covers, IsWorker, new_seats, seats_in_turn, left_of, stat_of, IsLowered, IsCloseHeard, IsKept, MovesSharesAlone};
+ghost use Rattle.iova_keep.specs.Views.{AreBlanksOf, TallyState, SeatState, Covers, IsWorker, new_seats, seats_in_turn, left_of, stat_of, IsLowered, IsCloseHeard, IsKept, MovesSharesAlone, tally_after};
 
 use iova_core::domain::Domain;
 use iova_keep::ledgers::{Blanks, Ledgers};
@@ -612,20 +612,20 @@ impl<B: Names> Book<B> {
         reply
     }
 
-    /// Begins or ends a flush, and raises the tally where it ended well.
+    /// Begins or ends a flush: the tally gets the event, and rises if the flush succeeded.
     pub(crate) fn run_flush(&mut self, tally: &mut Tally<B>, step: Step) -> Reply
         requires { by_tally step ≡ true }
         ensures takes { Takes self.old.state step result self.new.state }
         ensures stores { StoresStep self.old.log step result self.new.log }
         ensures same { IsSame self.old self.new }
         ensures kind { IsReplyTo step result }
-        ensures good { tally.new.good ≡ tally.old.good + ended_well step result }
-        ensures parts { tally.new.parts ≡ tally.old.parts }
+        ensures tally { tally.new ≡ tally_after step result tally.old }
     {
         let reply = self.recorded.step(step);
         if ends_well(step, &reply) {
             self.ledgers.raise(tally, self.recorded.good());
         }
+        tally.note(step, &reply);
         reply
     }
 
@@ -636,8 +636,7 @@ impl<B: Names> Book<B> {
         ensures stores { StoresStep self.old.log step result self.new.log }
         ensures same { IsSame self.old self.new }
         ensures kind { IsReplyTo step result }
-        ensures good { seat.new.tally.good ≡ seat.old.tally.good + ended_well step result }
-        ensures parts { seat.new.tally.parts ≡ seat.old.tally.parts }
+        ensures tally { seat.new.tally ≡ tally_after step result seat.old.tally }
         ensures rest { (seat.new.worker ≡ seat.old.worker) × (seat.new.held ≡ seat.old.held) }
     {
         self.run_flush(seat.tally(), step)

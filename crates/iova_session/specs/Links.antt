@@ -20,9 +20,10 @@ pub record Wire : Type 0 where
   pub failures : ℕ
   pub ends : ℕ
 
--- a link whose bytes are not known: how many reads there were, failures, and reads that found the
--- end
+-- a link whose bytes are not known: the numbers of its calls, its reads, its failures, and its
+-- reads that found the end
 pub record LinkCounts : Type 0 where
+  pub calls : ℕ
   pub reads : ℕ
   pub failures : ℕ
   pub ends : ℕ

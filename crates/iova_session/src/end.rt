@@ -3,7 +3,7 @@
 /// Why a session ended.
 #[derive(Clone, Copy, Debug, PartialEq, Eq)]
 pub enum End {
-    /// The peer asked `bye`.
+    /// The client asked `bye`.
     Bye,
     /// The link has ended.
     Closed,

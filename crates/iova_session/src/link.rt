@@ -21,6 +21,9 @@ pub trait Link {
     /// The bytes that were written, where they are known.
     ghost sent: { Self → Option (List ℕ) };
 
+    /// The number of calls: a link without one is unused.
+    ghost calls: { Self → ℕ };
+
     /// How many reads there were.
     ghost reads: { Self → ℕ };
 
@@ -35,6 +38,7 @@ pub trait Link {
     fn read(&mut self, buf: &mut [u8]) -> Result<usize, LinkFault>
         ensures bound { IfOk result (λ n. n ≤ length buf.old) }
         ensures bytes { ReadConsumes (left self.old) (left self.new) result buf.new }
+        ensures calls { calls self.new ≡ calls self.old + 1 }
         ensures reads { reads self.new ≡ reads self.old + 1 }
         ensures failures { CountsFailure result (failures self.old) (failures self.new) }
         ensures ends { CountsEnds result (length buf.old) (ends self.old) (ends self.new) }
@@ -48,6 +52,7 @@ pub trait Link {
         ensures bytes { WriteAppends (sent self.old) (sent self.new) result bytes.now }
         ensures failures { CountsFailure result (failures self.old) (failures self.new) }
         ensures left { left self.new ≡ left self.old }
+        ensures calls { calls self.new ≡ calls self.old + 1 }
         ensures reads { reads self.new ≡ reads self.old }
         ensures ends { ends self.new ≡ ends self.old };
 }

@@ -107,6 +107,8 @@ impl<'a> Link for MemoryLink<'a> {
 
     ghost sent = { λ l. Some l.sent };
 
+    ghost calls = { λ l. l.calls };
+
     ghost reads = { λ l. l.reads };
 
     ghost failures = { λ l. l.failures };
@@ -116,6 +118,7 @@ impl<'a> Link for MemoryLink<'a> {
     fn read(&mut self, buf: &mut [u8]) -> Result<usize, LinkFault>
         ensures bound { IfOk result (λ n. n ≤ length buf.old) }
         ensures bytes { ReadConsumes (Some self.old.left) (Some self.new.left) result buf.new }
+        ensures calls { self.new.calls ≡ self.old.calls + 1 }
         ensures reads { self.new.reads ≡ self.old.reads + 1 }
         ensures failures { CountsFailure result self.old.failures self.new.failures }
         ensures ends { CountsEnds result (length buf.old) self.old.ends self.new.ends }
@@ -152,6 +155,7 @@ impl<'a> Link for MemoryLink<'a> {
         ensures bytes { WriteAppends (Some self.old.sent) (Some self.new.sent) result bytes.now }
         ensures failures { CountsFailure result self.old.failures self.new.failures }
         ensures left { self.new.left ≡ self.old.left }
+        ensures calls { self.new.calls ≡ self.old.calls + 1 }
         ensures reads { self.new.reads ≡ self.old.reads }
         ensures ends { self.new.ends ≡ self.old.ends }
         ensures most { IfOk result (λ n. n ≡ min self.old.most (length bytes.now)) }

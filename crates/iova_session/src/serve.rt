@@ -21,8 +21,8 @@ use std::alloc::Global;
 /// on the thread's stack, which is most of what a client costs.
 const PIECE: usize = 1024;
 
-/// Serves the peer at the other end of the link until the session ends: reads lines, asks the desk
-/// in runs of 1 to 16 requests, and writes the answers to each run before the next. It reads no
+/// Serves the client at the other end of the link until the session ends: reads lines, asks the
+/// desk in runs of 1 to 16 requests, and writes the answers to each run before the next. It reads no
 /// more while a whole request that was read is not answered. A bad line is answered `no 20
 /// BadLine`, the 65,537th request and the read after 1,048,576 ones `no 21 TooMany`, and each of
 /// them ends the session; what stands at the end of the link without an LF is dropped. `NoMemory`

@@ -10,11 +10,12 @@ use std::marker::Model;
 use std::os::unix::net::UnixStream;
 
 /// A connected Unix socket. Each call is one call of the operating system, which may wait for the
-/// peer, and none is made again. Contracts see the numbers of its reads, its failures and the reads
-/// that found the end; what bytes come and go, no contract can say.
+/// other end, and none is made again. Contracts see the numbers of its calls, its reads, its
+/// failures and the reads that found the end; what bytes come and go, no contract can say.
 #[derive(Drop)]
 pub struct SocketLink {
     stream: UnixStream,
+    calls: Count,
     reads: Count,
     failed: Count,
     ended: Count,
@@ -25,16 +26,22 @@ impl Model for SocketLink {
 
     ghost Value = { LinkCounts };
 
-    ghost view = { λ l. record { reads = l.reads; failures = l.failed; ends = l.ended } };
+    ghost view = { λ l. record {
+      calls = l.calls;
+      reads = l.reads;
+      failures = l.failed;
+      ends = l.ended;
+    } };
 }
 
 impl SocketLink {
     /// A link over this socket, of which no call was made.
     pub fn new(stream: UnixStream) -> SocketLink
-        ensures { result ≡ record { reads = 0; failures = 0; ends = 0 } }
+        ensures { result ≡ record { calls = 0; reads = 0; failures = 0; ends = 0 } }
     {
         SocketLink {
             stream,
+            calls: Count::new(),
             reads: Count::new(),
             failed: Count::new(),
             ended: Count::new(),
@@ -47,6 +54,8 @@ impl Link for SocketLink {
 
     ghost sent = { λ l. None };
 
+    ghost calls = { λ l. l.calls };
+
     ghost reads = { λ l. l.reads };
 
     ghost failures = { λ l. l.failures };
@@ -54,6 +63,7 @@ impl Link for SocketLink {
     ghost ends = { λ l. l.ends };
 
     fn read(&mut self, buf: &mut [u8]) -> Result<usize, LinkFault> {
+        self.calls.up();
         self.reads.up();
         let read = self.stream.read(buf);
         let Ok(n) = bytes_read(read) else {
@@ -67,6 +77,7 @@ impl Link for SocketLink {
     }
 
     fn write(&mut self, bytes: &[u8]) -> Result<usize, LinkFault> {
+        self.calls.up();
         let written = self.stream.write(bytes);
         match bytes_taken(written, bytes.len()) {
             Some(n) => Ok(n),

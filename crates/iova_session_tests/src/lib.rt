@@ -1,5 +1,5 @@
 //! Tests of the lines of the service, of sessions, over desks of their own and over books and
-//! locks, of the threads that serve them, of the peer that asks and of the peer that invalidates.
+//! locks, of the threads that serve them, of the client that asks and of the peer that invalidates.
 //! They stand apart from the crates that they test, which would be proved once more with them.
 #![tactic(auto)]
 

@@ -89,6 +89,7 @@ pub(crate) struct ByLines<'a> {
     pub(crate) lines: u64,
     pub(crate) answers: u64,
     pub(crate) sent: ArrayVec<u8, 8192>,
+    calls: Count,
     reads: Count,
     failed: Count,
     ended: Count,
@@ -102,6 +103,7 @@ impl<'a> ByLines<'a> {
             lines: 0,
             answers: 0,
             sent: ArrayVec::new(),
+            calls: Count::new(),
             reads: Count::new(),
             failed: Count::new(),
             ended: Count::new(),
@@ -138,6 +140,8 @@ impl<'a> Link for ByLines<'a> {
 
     ghost sent = { λ l. None };
 
+    ghost calls = { λ l. l.calls };
+
     ghost reads = { λ l. l.reads };
 
     ghost failures = { λ l. l.failed };
@@ -145,6 +149,7 @@ impl<'a> Link for ByLines<'a> {
     ghost ends = { λ l. l.ended };
 
     fn read(&mut self, buf: &mut [u8]) -> Result<usize, LinkFault> {
+        self.calls.up();
         self.reads.up();
         if self.answers != self.lines {
             self.failed.up();
@@ -163,6 +168,7 @@ impl<'a> Link for ByLines<'a> {
     }
 
     fn write(&mut self, bytes: &[u8]) -> Result<usize, LinkFault> {
+        self.calls.up();
         if self.sent.try_extend_from_slice(bytes).is_err() {
             self.failed.up();
             return Err(LinkFault);

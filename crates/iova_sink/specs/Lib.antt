@@ -5,3 +5,4 @@ pub mod Devices
 pub mod Passing
 pub mod Channels
 pub mod Talks
+pub mod Sockets

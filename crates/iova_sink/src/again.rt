@@ -1,9 +1,11 @@
 //! Calls that a signal interrupted, made again.
 ghost use Rattle.std.specs.Prelude.{◌≡◌, ◌≤◌, IfOk, IsErr, length, true};
+ghost use Rattle.iova_sink.specs.Sockets.{Reads, Writes};
 
-use crate::soon::read_from;
+use crate::socket_calls::SocketCalls;
+use crate::soon::{read_from, write_to};
 use std::io;
-use std::io::{ErrorKind, Write};
+use std::io::ErrorKind;
 use std::os::unix::net::UnixStream;
 use std::rt::Clock;
 use std::time::Duration;
@@ -23,20 +25,23 @@ pub fn is_interrupted(done: &io::Result<usize>) -> bool
 
 /// Reads what comes next, as long as the time that began then isn't over. `TimedOut` once it is.
 /// The connection has this limit again afterwards.
-pub fn read_again<C: Clock>(
-    clock: &C,
+pub fn read_again<T: Clock, C: SocketCalls>(
+    clock: &T,
+    calls: &mut C,
     stream: &UnixStream,
     buffer: &mut [u8],
     begun: Duration,
     limit: Duration,
 ) -> io::Result<usize>
-    ensures { IfOk result (λ n. n ≤ length buffer.new) }
+    ensures bound { IfOk result (λ n. n ≤ length buffer.new) }
+    ensures reads { Reads (C.state calls.old) (C.state calls.new) buffer.new result }
 {
     for _ in 0..MOST {
         stream.set_read_timeout(Some(left(clock, begun, limit)?))?;
-        let read = read_from(stream, buffer);
+        let read = read_from(calls, stream, buffer);
         if !is_interrupted(&read) {
-            stream.set_read_timeout(Some(limit))?;
+            // what was read isn't lost if the limit can't be set
+            let _ = stream.set_read_timeout(Some(limit));
             return read;
         }
     }
@@ -45,20 +50,22 @@ pub fn read_again<C: Clock>(
 
 /// Writes a front of the bytes, as long as the time that began then isn't over. `TimedOut` once it
 /// is. The connection has this limit again afterwards.
-pub fn write_again<C: Clock>(
-    clock: &C,
-    mut stream: &UnixStream,
+pub fn write_again<T: Clock, C: SocketCalls>(
+    clock: &T,
+    calls: &mut C,
+    stream: &UnixStream,
     bytes: &[u8],
     begun: Duration,
     limit: Duration,
 ) -> io::Result<usize>
-    ensures { IfOk result (λ n. n ≤ length bytes.now) }
+    ensures bound { IfOk result (λ n. n ≤ length bytes.now) }
+    ensures writes { Writes (C.state calls.old) (C.state calls.new) bytes.now result }
 {
     for _ in 0..MOST {
         stream.set_write_timeout(Some(left(clock, begun, limit)?))?;
-        let written = stream.write(bytes);
+        let written = write_to(calls, stream, bytes);
         if !is_interrupted(&written) {
-            stream.set_write_timeout(Some(limit))?;
+            let _ = stream.set_write_timeout(Some(limit));
             return written;
         }
     }

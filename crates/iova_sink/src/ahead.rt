@@ -1,9 +1,10 @@
 //! A connection, and the bytes of it that were read before anybody asked for them.
-ghost use Rattle.std.specs.Prelude.{◌≡◌, ◌≢◌, ℕ, ◌+◌, ◌≤◌, ◌++◌, [], true, false, IfOk, IfErr, List, length, take, min};
-ghost use Rattle.iova_sink.specs.Passing.{with_received_bytes};
+ghost use Rattle.std.specs.Prelude.{◌≡◌, ◌≢◌, ℕ, ◌+◌, ◌<◌, ◌≤◌, ◌++◌, [], true, false, IfOk, IfErr, List, length, take, min};
+ghost use Rattle.std.specs.Io.KnownBytes.{IsAtEnd};
+ghost use Rattle.iova_sink.specs.Sockets.{HandsOver, Reads};
 
 use crate::again::{is_interrupted, read_again};
-use crate::history::History;
+use crate::socket_calls::SocketCalls;
 use crate::soon::SpinBudget;
 use std::io;
 use std::marker::Model;
@@ -51,26 +52,30 @@ impl Ahead {
         self.left
     }
 
-    /// Reads the next bytes, where there are none, and notes them as received: none come at the end
-    /// of the stream. It takes no longer than this, whatever interrupts it.
+    /// Reads the next bytes, where there are none: none come at the end of the stream. It takes no
+    /// longer than this, whatever interrupts it.
     #[tactic(auto, using(crate::proofs::HandedOn::read_first))]
-    fn fill<C: Clock>(
+    fn fill<T: Clock, C: SocketCalls>(
         &mut self,
-        clock: &C,
+        clock: &T,
+        calls: &mut C,
         stream: &UnixStream,
         spins: &mut SpinBudget,
         limit: Duration,
-        past: &mut History,
     ) -> io::Result<()>
         ensures read { IfOk result (λ u. (more : List ℕ)
-            × (past.new ≡ with_received_bytes past.old more) × (self.new ≡ self.old ++ more)) }
-        ensures kept { self.old ≢ [] → (self.new ≡ self.old) × (past.new ≡ past.old) }
-        ensures failed { IfErr result (λ e. (self.new ≡ self.old) × (past.new ≡ past.old)) }
+            × HandsOver (C.state calls.old) (C.state calls.new) more
+            × (self.new ≡ self.old ++ more)) }
+        ensures end { IfOk result (λ u. self.new ≡ [] → IsAtEnd (C.state calls.new).left) }
+        ensures kept { self.old ≢ []
+            → (self.new ≡ self.old) × (C.state calls.new ≡ C.state calls.old) }
+        ensures failed { IfErr result (λ e. (self.new ≡ self.old)
+            × (C.state calls.new ≡ C.state calls.old)) }
     {
         if self.len() > 0 {
             return Ok(());
         }
-        let n = read_noted(clock, stream, spins, limit, &mut self.bytes, past)?;
+        let n = read_next(clock, calls, stream, spins, limit, &mut self.bytes)?;
         self.from = 0;
         self.left = n;
         Ok(())
@@ -90,39 +95,22 @@ impl Ahead {
     }
 }
 
-/// Reads what comes next, which is noted as received, and gives how many bytes. It takes no longer
-/// than this, whatever interrupts it.
-fn read_noted<C: Clock>(
-    clock: &C,
+/// Reads what comes next. It takes no longer than this, whatever interrupts it.
+fn read_next<T: Clock, C: SocketCalls>(
+    clock: &T,
+    calls: &mut C,
     stream: &UnixStream,
     spins: &mut SpinBudget,
     limit: Duration,
     buffer: &mut [u8],
-    past: &mut History,
 ) -> io::Result<usize>
     ensures bound { IfOk result (λ n. n ≤ length buffer.new) }
-    ensures read { IfOk result (λ n. past.new ≡ with_received_bytes past.old (take n buffer.new)) }
-    ensures failed { IfErr result (λ e. past.new ≡ past.old) }
-{
-    let n = read_next(clock, stream, spins, limit, buffer)?;
-    past.add_received(&buffer[..n]);
-    Ok(n)
-}
-
-/// Reads what comes next. It takes no longer than this, whatever interrupts it.
-fn read_next<C: Clock>(
-    clock: &C,
-    stream: &UnixStream,
-    spins: &mut SpinBudget,
-    limit: Duration,
-    buffer: &mut [u8],
-) -> io::Result<usize>
-    ensures { IfOk result (λ n. n ≤ length buffer.new) }
+    ensures reads { Reads (C.state calls.old) (C.state calls.new) buffer.new result }
 {
     let begun = clock.monotonic()?;
-    let read = spins.read(stream, buffer);
+    let read = spins.read(calls, stream, buffer);
     if is_interrupted(&read) {
-        return read_again(clock, stream, buffer, begun, limit);
+        return read_again(clock, calls, stream, buffer, begun, limit);
     }
     read
 }
@@ -168,24 +156,27 @@ impl Connection {
 
     /// Hands on into the buffer what was read ahead, or else what is read next, in the order in
     /// which it was read, and gives how many bytes: none at the end of the stream. What is read
-    /// beyond the buffer is kept for the next call, and all of it is noted as received. It takes no
-    /// longer than this, whatever interrupts it.
-    pub(crate) fn receive<C: Clock>(
+    /// beyond the buffer is kept for the next call. It takes no longer than this, whatever
+    /// interrupts it.
+    pub(crate) fn receive<T: Clock, C: SocketCalls>(
         &mut self,
-        clock: &C,
+        clock: &T,
+        calls: &mut C,
         spins: &mut SpinBudget,
         limit: Duration,
         buffer: &mut [u8],
-        past: &mut History,
     ) -> io::Result<usize>
         ensures order { IfOk result (λ n. (more : List ℕ)
-            × (past.new ≡ with_received_bytes past.old more)
+            × HandsOver (C.state calls.old) (C.state calls.new) more
             × (self.old ++ more ≡ take n buffer.new ++ self.new)) }
-        ensures ahead { IfOk result (λ n. self.old ≢ [] → past.new ≡ past.old) }
+        ensures end { IfOk result (λ n. n ≡ 0 → 0 < length buffer.new
+            → (self.old ≡ []) × IsAtEnd (C.state calls.new).left) }
+        ensures ahead { IfOk result (λ n. self.old ≢ [] → C.state calls.new ≡ C.state calls.old) }
         ensures bound { IfOk result (λ n. n ≤ length buffer.new) }
-        ensures failed { IfErr result (λ e. (self.new ≡ self.old) × (past.new ≡ past.old)) }
+        ensures failed { IfErr result (λ e. (self.new ≡ self.old)
+            × (C.state calls.new ≡ C.state calls.old)) }
     {
-        self.ahead.fill(clock, &self.stream, spins, limit, past)?;
+        self.ahead.fill(clock, calls, &self.stream, spins, limit)?;
         Ok(self.ahead.take(buffer))
     }
 }

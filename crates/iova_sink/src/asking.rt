@@ -155,8 +155,8 @@ fn said(got: &[u8], done: &[u8], failed: &[u8]) -> AnswerState
     }
 }
 
-/// Receives bytes up to an LF, the end of the stream or this many, one at a time: no byte behind
-/// them is taken.
+/// Receives the bytes of one line from the channel's buffer, one at a time: up to an LF, the end of
+/// the stream or `limit` bytes. It leaves later bytes in the buffer.
 fn receive_line<C: Channel>(
     channel: &mut C,
     limit: usize,

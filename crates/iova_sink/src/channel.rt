@@ -1,5 +1,5 @@
 //! A connection to a peer that answers.
-ghost use Rattle.std.specs.Prelude.{◌≡◌, ◌<◌, ◌≤◌, IfOk, length};
+ghost use Rattle.std.specs.Prelude.{◌≡◌, ◌<◌, ◌≤◌, [], IfOk, length};
 ghost use Rattle.iova_sink.specs.Channels.{Talk, Sends, Receives, Looks, Connects, without_connection};
 
 /// The channel failed.
@@ -44,7 +44,8 @@ pub trait Channel {
     fn receive(&mut self, buffer: &mut [u8]) -> Result<usize, ChannelFault>
         requires { 0 < length buffer.old }
         ensures bound { IfOk result (λ n. n ≤ length buffer.new) }
-        ensures receives { Receives (talk self.old) (talk self.new) buffer.new result };
+        ensures receives { Receives (talk self.old) (talk self.new) buffer.new result }
+        ensures end { IfOk result (λ n. n ≡ 0 → (talk self.old).ahead ≡ []) };
 
     /// Looks what stands in the connection, without waiting. Where it is `Bytes`, the connection is
     /// good for nothing but to be closed: some of them may be lost.

@@ -20,5 +20,6 @@ pub mod memory_device;
 pub mod record;
 pub mod sink;
 pub mod socket;
+pub mod socket_calls;
 pub mod soon;
 pub mod stop_deadline;

@@ -1,17 +1,18 @@
 //! A channel over a Unix socket.
 ghost use Rattle.std.specs.Prelude.{◌≡◌, ◌≢◌, ◌≤◌, ◌<◌, [], IfOk, IfSome, length, false};
 ghost use Rattle.iova_sink.specs.Channels.{with_failure};
+ghost use Rattle.iova_sink.specs.Sockets.{Writes, FindsBehind};
 
 use crate::again::{is_interrupted, write_again};
 use crate::ahead::Connection;
 use crate::backoff::Backoff;
 use crate::channel::{Channel, ChannelFault, Incoming};
 use crate::device::bytes_taken;
-use crate::history::{History, Passed};
-use crate::soon::{SpinBudget, read_now};
+use crate::socket_calls::{SocketCalls, TracedCalls};
+use crate::soon::{SpinBudget, write_to};
 use crate::stop_deadline::StopDeadline;
 use std::io;
-use std::io::{ErrorKind, Write};
+use std::io::ErrorKind;
 use std::marker::Model;
 use std::net::Net;
 use std::os::unix::net::UnixStream;
@@ -36,7 +37,7 @@ pub struct SocketChannel<'a, N: Net> {
     was_full: bool,
     backoff: Backoff,
     spins: SpinBudget,
-    past: History,
+    calls: TracedCalls,
 }
 
 /// Drops its parts. The proof stands here, once for all crates above.
@@ -51,7 +52,7 @@ impl<'a, N: Net> Drop for SocketChannel<'a, N> {
             was_full: _,
             backoff: _,
             spins: _,
-            past: _,
+            calls: _,
         } = self;
     }
 }
@@ -64,7 +65,7 @@ impl<'a, N: Net> Model for SocketChannel<'a, N> {
     ghost Value = { Talk };
 
     ghost view = { λ c. record {
-      passed = c.past;
+      passed = c.calls;
       ahead = ahead_of c.connection;
       connected = is_some c.connection;
     } };
@@ -85,7 +86,7 @@ impl<'a, N: Net + Clock> SocketChannel<'a, N> {
             was_full: false,
             backoff: Backoff::new(),
             spins: SpinBudget::new(),
-            past: History::new(),
+            calls: TracedCalls::new(),
         }
     }
 
@@ -126,7 +127,7 @@ impl<'a, N: Net + Clock> SocketChannel<'a, N> {
     fn fault(&mut self) -> ChannelFault
         ensures { self.new ≡ with_failure self.old }
     {
-        self.past.add(Passed::Failed);
+        self.calls.note_failed();
         ChannelFault
     }
 }
@@ -145,15 +146,13 @@ impl<'a, N: Net + Clock> Channel for SocketChannel<'a, N> {
         let Some(connection) = &self.connection else {
             return Err(self.fault());
         };
-        let written = written(self.net, connection.stream(), bytes, self.limit);
+        let stream = connection.stream();
+        let written = written(self.net, &mut self.calls, stream, bytes, self.limit);
         if let Err(error) = &written {
             return Err(self.fault_of(error));
         }
         match bytes_taken(written, bytes.len()) {
-            Some(n) => {
-                self.past.add_sent(&bytes[..n]);
-                Ok(n)
-            }
+            Some(n) => Ok(n),
             None => Err(self.fault()),
         }
     }
@@ -165,8 +164,8 @@ impl<'a, N: Net + Clock> Channel for SocketChannel<'a, N> {
         let Some(connection) = &mut self.connection else {
             return Err(self.fault());
         };
-        let (spins, past) = (&mut self.spins, &mut self.past);
-        match connection.receive(self.net, spins, self.limit, buffer, past) {
+        let (calls, spins) = (&mut self.calls, &mut self.spins);
+        match connection.receive(self.net, calls, spins, self.limit, buffer) {
             Ok(n) => {
                 if n > 0 {
                     self.backoff.reset();
@@ -177,15 +176,14 @@ impl<'a, N: Net + Clock> Channel for SocketChannel<'a, N> {
         }
     }
 
-    /// Bytes that were read ahead stand there too. Where there are none, it reads a byte without
-    /// waiting: one that stands there is lost.
+    /// Bytes that were read ahead stand there too.
     fn look(&mut self) -> Result<Incoming, ChannelFault> {
         let Some(connection) = &self.connection else {
             return Err(self.fault());
         };
-        match incoming_of(connection) {
+        match incoming_of(&mut self.calls, connection) {
             Ok(Incoming::Bytes) => {
-                self.past.add(Passed::Strayed);
+                self.calls.note_stray();
                 Ok(Incoming::Bytes)
             }
             Ok(incoming) => Ok(incoming),
@@ -199,9 +197,8 @@ impl<'a, N: Net + Clock> Channel for SocketChannel<'a, N> {
         if self.is_given_up() || self.backoff.holds(self.net) {
             return Err(self.fault());
         }
-        match connected(self.net, self.path, self.limit) {
+        match self.calls.connect(self.net, self.path, self.limit) {
             Ok(stream) => {
-                self.past.add(Passed::Connected);
                 self.connection = Some(Connection::new(stream));
                 self.was_full = false;
                 Ok(())
@@ -228,47 +225,30 @@ fn is_late(error: &io::Error) -> bool {
 }
 
 /// Writes a front of the bytes. It takes no longer than this, whatever interrupts it.
-fn written<C: Clock>(
-    clock: &C,
-    mut stream: &UnixStream,
+fn written<T: Clock, C: SocketCalls>(
+    clock: &T,
+    calls: &mut C,
+    stream: &UnixStream,
     bytes: &[u8],
     limit: Duration,
 ) -> io::Result<usize>
-    ensures { IfOk result (λ n. n ≤ length bytes.now) }
+    ensures bound { IfOk result (λ n. n ≤ length bytes.now) }
+    ensures writes { Writes (C.state calls.old) (C.state calls.new) bytes.now result }
 {
     let begun = clock.monotonic()?;
-    let written = stream.write(bytes);
+    let written = write_to(calls, stream, bytes);
     if is_interrupted(&written) {
-        return write_again(clock, stream, bytes, begun, limit);
+        return write_again(clock, calls, stream, bytes, begun, limit);
     }
     written
 }
 
-/// A connection with these limits.
-fn connected<N: Net>(net: &N, path: &str, limit: Duration) -> io::Result<UnixStream> {
-    let stream = UnixStream::connect(net, path)?;
-    stream.set_read_timeout(Some(limit))?;
-    stream.set_write_timeout(Some(limit))?;
-    Ok(stream)
-}
-
 /// What stands in the connection, or was read of it ahead.
-fn incoming_of(connection: &Connection) -> io::Result<Incoming>
-    ensures { IfOk result (λ s. s ≡ Incoming.Nothing → connection.now ≡ []) }
+fn incoming_of<C: SocketCalls>(calls: &mut C, connection: &Connection) -> Result<Incoming, i32>
+    ensures { FindsBehind connection.now (C.state calls.old) (C.state calls.new) result }
 {
     if connection.is_ahead() {
         return Ok(Incoming::Bytes);
     }
-    let mut byte = [0u8];
-    match read_now(connection.stream(), &mut byte) {
-        Ok(0) => Ok(Incoming::End),
-        Ok(_) => Ok(Incoming::Bytes),
-        Err(error) => {
-            if error.kind() == ErrorKind::WouldBlock {
-                Ok(Incoming::Nothing)
-            } else {
-                Err(error)
-            }
-        }
-    }
+    calls.look(connection.stream())
 }

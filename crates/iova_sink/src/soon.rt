@@ -1,11 +1,11 @@
 //! Reads of what a peer sends soon: it is looked for a while before the thread sleeps.
-ghost use Rattle.std.specs.Prelude.{◌≤◌, IfOk, length};
+ghost use Rattle.std.specs.Prelude.{◌≡◌, ◌≤◌, IfOk, IsErr, length, true};
+ghost use Rattle.iova_sink.specs.Sockets.{Reads, Writes};
 
-use libc::net::{MSG_DONTWAIT, recv};
+use crate::socket_calls::SocketCalls;
 use std::hint::spin_loop;
 use std::io;
-use std::io::{ErrorKind, Read};
-use std::os::fd::AsRawFd;
+use std::io::ErrorKind;
 use std::os::unix::net::UnixStream;
 
 /// How often is looked before a thread sleeps: for less time than it takes to sleep and to be woken
@@ -56,11 +56,17 @@ impl SpinBudget {
     }
 
     /// Reads what comes next: looks for it, and then waits as long as the socket's own limit says.
-    pub fn read(&mut self, stream: &UnixStream, buffer: &mut [u8]) -> io::Result<usize>
-        ensures { IfOk result (λ n. n ≤ length buffer.new) }
+    pub fn read<C: SocketCalls>(
+        &mut self,
+        calls: &mut C,
+        stream: &UnixStream,
+        buffer: &mut [u8],
+    ) -> io::Result<usize>
+        ensures bound { IfOk result (λ n. n ≤ length buffer.new) }
+        ensures reads { Reads (C.state calls.old) (C.state calls.new) buffer.new result }
     {
         for _ in 0..self.count() {
-            let read = read_now(stream, buffer);
+            let read = read_now(calls, stream, buffer);
             if !is_awaited(&read) {
                 self.note(true);
                 return read;
@@ -70,46 +76,61 @@ impl SpinBudget {
             }
         }
         self.note(false);
-        read_from(stream, buffer)
+        read_from(calls, stream, buffer)
     }
 }
 
-/// Reads what stands in the connection, and doesn't wait: `WouldBlock` where nothing does.
-pub fn read_now(stream: &UnixStream, buffer: &mut [u8]) -> io::Result<usize>
-    ensures { IfOk result (λ n. n ≤ length buffer.new) }
+/// Reads what stands in the connection, and doesn't wait: `WouldBlock` if nothing does.
+fn read_now<C: SocketCalls>(
+    calls: &mut C,
+    stream: &UnixStream,
+    buffer: &mut [u8],
+) -> io::Result<usize>
+    ensures bound { IfOk result (λ n. n ≤ length buffer.new) }
+    ensures reads { Reads (C.state calls.old) (C.state calls.new) buffer.new result }
 {
-    let read = unsafe { recv(stream.as_raw_fd(), buffer, MSG_DONTWAIT) };
-    if read < 0 {
-        Err(io::Error::from_raw_os_error(os::errno()))
-    } else {
-        Ok(read as usize)
+    match calls.receive(stream, buffer, false) {
+        Ok(n) => Ok(n),
+        Err(error) => Err(io::Error::from_raw_os_error(error)),
     }
 }
 
 /// Whether a call that doesn't wait found nothing.
-fn is_awaited(done: &io::Result<usize>) -> bool {
+fn is_awaited(done: &io::Result<usize>) -> bool
+    ensures { result ≡ true → IsErr done.now }
+{
     match done {
         Ok(_) => false,
         Err(error) => error.kind() == ErrorKind::WouldBlock,
     }
 }
 
-/// Reads what comes next, and waits for it. Where that fails, the number of the system's error.
-#[inline(always)]
-pub fn receive(stream: &UnixStream, buffer: &mut [u8]) -> Result<usize, i32>
-    ensures { IfOk result (λ n. n ≤ length buffer.new) }
+/// Reads what comes next, and waits for it.
+pub fn read_from<C: SocketCalls>(
+    calls: &mut C,
+    stream: &UnixStream,
+    buffer: &mut [u8],
+) -> io::Result<usize>
+    ensures bound { IfOk result (λ n. n ≤ length buffer.new) }
+    ensures reads { Reads (C.state calls.old) (C.state calls.new) buffer.new result }
 {
-    let read = unsafe { recv(stream.as_raw_fd(), buffer, 0) };
-    if read < 0 {
-        Err(os::errno())
-    } else {
-        Ok(read as usize)
+    match calls.receive(stream, buffer, true) {
+        Ok(n) => Ok(n),
+        Err(error) => Err(io::Error::from_raw_os_error(error)),
     }
 }
 
-/// Reads what comes next, and waits for it.
-pub fn read_from(mut stream: &UnixStream, buffer: &mut [u8]) -> io::Result<usize>
-    ensures { IfOk result (λ n. n ≤ length buffer.new) }
+/// Writes a front of the bytes.
+pub fn write_to<C: SocketCalls>(
+    calls: &mut C,
+    stream: &UnixStream,
+    bytes: &[u8],
+) -> io::Result<usize>
+    ensures bound { IfOk result (λ n. n ≤ length bytes.now) }
+    ensures writes { Writes (C.state calls.old) (C.state calls.new) bytes.now result }
 {
-    stream.read(buffer)
+    match calls.send(stream, bytes) {
+        Ok(n) => Ok(n),
+        Err(error) => Err(io::Error::from_raw_os_error(error)),
+    }
 }

@@ -3,6 +3,8 @@ use Rattle.std.specs.Prelude.{ℕ, zero, suc, ◌≡◌, Bool, true, false, List
 use Rattle.std.specs.Borrow.{Bor}
 use Rattle.iova_command.specs.declared.usage.WordsFault.{WordsFault}
 use Rattle.iova_command.specs.declared.usage.WordsFault.TheVariants as words
+use Rattle.iova_trace.specs.declared.fault.ReplayFault.{ReplayFault}
+use Rattle.iova_trace.specs.declared.fault.ReplayFault.TheVariants as replay
 use Rattle.iova_tools.specs.declared.fault.Left.{Left}
 use Rattle.iova_tools.specs.declared.fault.Fault.{Fault}
 use Rattle.iova_tools.specs.declared.fault.Fault.TheVariants as fault
@@ -42,6 +44,13 @@ fault_text fault.SocketFault = Some (codes "iovad: socket fault")
 fault_text fault.CannotOpenSink = Some (codes "iovad: cannot open the sink")
 fault_text (fault.Left left) = Some (left_text left)
 fault_text fault.NoMemory = Some (codes "iovad: no memory")
+
+-- the fault of the replay of the trace of this name
+abbrev pub fault_of_replay : Bor (List ℕ) → ReplayFault → Fault
+fault_of_replay path (replay.BadTrace line) = fault.TraceRefused line
+fault_of_replay path replay.ReadFault = fault.CannotRead path
+fault_of_replay path replay.WriteFault = fault.CannotWrite
+fault_of_replay path replay.NoMemory = fault.NoMemory
 
 -- the status of the process
 abbrev pub fault_status : Fault → ℕ

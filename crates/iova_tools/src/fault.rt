@@ -2,7 +2,7 @@
 ghost use Rattle.std.specs.Prelude.{◌≡◌, ◌⊎◌, ℕ, codes};
 ghost use Rattle.std.specs.Process.{exit_status};
 ghost use Rattle.iova_tools.specs.Verdicts.{fault_of_verdict, fault_of_check};
-ghost use Rattle.iova_tools.specs.Faults.{IfUnread, IsFaultOfWords, fault_text, fault_status};
+ghost use Rattle.iova_tools.specs.Faults.{IfUnread, IsFaultOfWords, fault_of_replay, fault_text, fault_status};
 
 use crate::verdict::Verdict;
 use iova_ask::fault::AskFault;
@@ -64,11 +64,7 @@ pub struct Left {
 impl<'a> Fault<'a> {
     /// The fault of a replay of the trace of this name.
     pub fn of_replay(fault: ReplayFault, path: &'a str) -> Fault<'a>
-        ensures refused { (line : ℕ) → fault ≡ ReplayFault.BadTrace line
-            → result ≡ Fault.TraceRefused line }
-        ensures unread { fault ≡ ReplayFault.ReadFault → result ≡ Fault.CannotRead path.entry }
-        ensures unwritten { fault ≡ ReplayFault.WriteFault → result ≡ Fault.CannotWrite }
-        ensures memory { fault ≡ ReplayFault.NoMemory → result ≡ Fault.NoMemory }
+        ensures { result ≡ fault_of_replay path.entry fault }
     {
         match fault {
             ReplayFault::BadTrace(line) => Fault::TraceRefused(line),

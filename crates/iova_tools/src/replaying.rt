@@ -1,4 +1,6 @@
 //! A trace replayed as the words ask for it.
+ghost use Rattle.iova_tools.specs.Answers.{PrintsReplay};
+
 use crate::answer::answer;
 use crate::fault::Fault;
 use iova_command::words::STANDARD_INPUT;
@@ -6,9 +8,10 @@ use iova_files::cause::tell_cause;
 use iova_files::record_file::open_beside;
 use iova_files::standard::path_of_input;
 use iova_trace::log::{Log, LogWriter, NoLog};
+use std::alloc::Global;
 use std::fs::File;
 use std::io;
-use std::io::{BufWriter, Read};
+use std::io::{BufWriter, Read, Write};
 use std::rt::{Files, Runtime};
 
 /// How many bytes of a log are gathered before they are written.
@@ -70,23 +73,37 @@ where
     L: Log,
 {
     if path == STANDARD_INPUT {
-        return print(rt, &mut rt.reader(), path, has_report, log);
+        let (mut reader, mut writer) = (rt.reader(), io::writer(rt));
+        return print(rt.alloc(), &mut reader, &mut writer, path, has_report, log);
     }
     match File::open(rt, path) {
-        Ok(mut file) => print(rt, &mut file, path, has_report, log),
+        Ok(mut file) => print(
+            rt.alloc(),
+            &mut file,
+            &mut io::writer(rt),
+            path,
+            has_report,
+            log,
+        ),
         Err(_) => Err(Fault::CannotRead(path)),
     }
 }
 
-/// Replays what this reader has, and prints the replies.
-fn print<'a, R: Runtime + AllocGlobal, I: Read, L: Log>(
-    rt: &R,
+/// Replays the trace that the reader has, and writes its replies, and its report if one is wanted.
+/// A fault of the replay is the program's fault for the trace of this name.
+fn print<'a, I: Read, W: Write, L: Log>(
+    alloc: Global,
     reader: &mut I,
+    writer: &mut W,
     path: &'a str,
     has_report: bool,
     log: &mut L,
-) -> Result<(), Fault<'a>> {
-    match answer(rt.alloc(), reader, &mut io::writer(rt), log, has_report) {
+) -> Result<(), Fault<'a>>
+    ensures { PrintsReplay path.entry has_report (I.remaining reader.old) (I.remaining reader.new)
+        (W.contents writer.old) (W.contents writer.new) (L.contents log.old) (L.contents log.new)
+        result }
+{
+    match answer(alloc, reader, writer, log, has_report) {
         Ok(()) => Ok(()),
         Err(fault) => Err(Fault::of_replay(fault, path)),
     }

@@ -291,8 +291,8 @@ type DaemonAccept<'a, R> = SocketAccept<'a, R, Notices<'a, R>>;
 
 type DaemonControl<'a, R> = Control<'a, R, Notices<'a, R>>;
 
-/// Opens what the plan names: its sinks, the record's file, and its sockets, on which nobody is
-/// accepted yet; and begins the record.
+/// Opens the plan's sinks, the record's file and its sockets, and begins the record. No session is
+/// accepted yet.
 fn open_all<'a, 'p, R: Host, B: Names>(
     run: &Running<'a, 'p, R>,
     files: &mut StartFiles<'p>,
@@ -462,8 +462,8 @@ fn listen_for_control<'p, R: Host>(
     Ok(Some(file))
 }
 
-/// How long a session's peer is waited for: in short turns, where the daemon may be asked to stop
-/// or a session may be idle for so long only.
+/// The time that a session waits for its client: in short turns, if the daemon may be asked to stop
+/// or a session's idle time is limited.
 fn time_outs_of(plan: &Plan<'_>) -> TimeOuts
     ensures turns { result.turns ≡ planned_turns plan.now.idle }
     ensures turn { is_some result.turn ≡ (is_some plan.now.control || is_some plan.now.idle) }

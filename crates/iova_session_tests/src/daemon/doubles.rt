@@ -44,6 +44,8 @@ impl<'a> Link for RowLink<'a> {
 
     ghost sent = { λ l. Some l.wire.sent };
 
+    ghost calls = { λ l. l.wire.calls };
+
     ghost reads = { λ l. l.wire.reads };
 
     ghost failures = { λ l. l.wire.failures };

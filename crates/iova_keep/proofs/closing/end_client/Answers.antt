@@ -2,6 +2,7 @@ use Rattle.std.proofs.Common.{◌≡◌, ◌+◌, ◌-◌, ap, arith}
 use Rattle.iova_model.specs.declared.totals.Totals.{Totals}
 use Rattle.iova_keep.proofs.Closings.{lowered_more}
 use Rattle.iova_keep.proofs.Endings.{known_end_one, known_end_more, told_lowered}
+use Rattle.iova_keep.proofs.Flushing.{begun_past}
 use Rattle.iova_keep.proofs.closing.end_client.Goals as goal
 
 pub returns-in-None-clause-domain : goal.returns-in-None-clause-domain
@@ -37,3 +38,9 @@ returns-in-Some-clause-shares g c =
     let e = ap (λ (t : Totals). t.count) lowered.1 in
     let counted : c.args.seat.now.held.count ≡ l.new.seat.held.count + (c.count-before.result - c.count-in-Some.result) = omega (arith, e, c.count-before.ensures, c.count-in-Some.ensures) in
     told_lowered c.args.seat.now.held l.new.seat.held _ _ _ _ _ _ lowered counted c.ending-in-Some.ensures
+
+pub returns-in-Some-clause-rounds : goal.returns-in-Some-clause-rounds
+returns-in-Some-clause-rounds g c =
+    let h = c.close_first-first in
+    let f = rw h.ensures.same at c.close_rest-last.ensures.rounds in
+    f _ (begun_past c.in-Some.no _ _ _ c.in-Some.ensures.some h.ensures.rest.1)

@@ -11,17 +11,13 @@ pub turns-preserved-in-Serve : goal.turns-preserved-in-Serve
 turns-preserved-in-Serve g c =
     let was = c.turns.invariant in
     let tried = c.try_again.ensures in
-    let served = c.run_session_within-ended.ensures in
+    let served = c.serve-ended.ensures in
     let place = rw c.begin_session.ensures at served.place in
     let session = rw c.begin_session.ensures at served.session in
     record {
       place = keeps_more _ _ _ _ _ _ was.place (keeps_more _ _ _ _ _ _ tried.place place);
       same = served.same ∙ tried.same ∙ was.same;
-      turns = then_served _ _ _ _ _ _ _ _ _ _ (then_tried _ _ _ _ _ _ _ _ _ was.turns was.same tried.tries) (tried.same ∙ was.same) (
-        c.run_session_within-ended.new.link,
-        c.run_session_within-ended.result,
-        session,
-      );
+      turns = then_served _ _ _ _ _ _ _ _ _ _ (then_tried _ _ _ _ _ _ _ _ _ _ was.turns was.same tried.tries) (tried.same ∙ was.same) session;
     }
 
 -- the clients that wait were tried, and nothing else was done
@@ -32,7 +28,7 @@ turns-preserved g c =
     record {
       place = keeps_more _ _ _ _ _ _ was.place tried.place;
       same = tried.same ∙ was.same;
-      turns = then_tried _ _ _ _ _ _ _ _ _ was.turns was.same tried.tries;
+      turns = then_tried _ _ _ _ _ _ _ _ _ _ was.turns was.same tried.tries;
     }
 
 pub turns-preserved-in-End : goal.turns-preserved-in-End
@@ -42,5 +38,5 @@ turns-preserved-in-End g c =
     record {
       place = keeps_more _ _ _ _ _ _ was.place tried.place;
       same = tried.same ∙ was.same;
-      turns = then_tried _ _ _ _ _ _ _ _ _ was.turns was.same tried.tries;
+      turns = then_tried _ _ _ _ _ _ _ _ _ _ was.turns was.same tried.tries;
     }
