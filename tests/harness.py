@@ -10,9 +10,11 @@ them.
 PROGRAM is the environment's IOVAD, else what was built here, else what bin/program finds.
 """
 import contextlib
+import ctypes
 import os
 import re
 import shutil
+import signal
 import socket
 import stat
 import subprocess
@@ -144,6 +146,41 @@ def built(variable, path, finder):
             sys.exit(1)
         made = found.stdout.decode().strip()
     return made
+
+
+def built_example(work, name, source, old="", new=""):
+    """The program of a C source below examples/, over the library. With `old` one place of the examples' folder is edited: of the
+    source, or of the header that has it."""
+    folder, program = os.path.join(work, name), os.path.join(work, f"{name}.program")
+    shutil.copytree(os.path.join(TOP, "examples"), folder)
+    below = os.path.dirname(os.path.join(folder, source))
+    texts = {}
+    for file in os.listdir(below):
+        with open(os.path.join(below, file), encoding="utf-8") as opened:
+            texts[file] = opened.read()
+    check(f"{name}: places of the edit", sum(text.count(old) for text in texts.values()) if old else 1, 1)
+    for file, text in texts.items():
+        with open(os.path.join(below, file), "w", encoding="utf-8") as opened:
+            opened.write(text.replace(old, new) if old else text)
+    library = built("LIBIOVA", ("iova_c", "out", "libiova.a"), "library")
+    words = ["cc", "-O2", "-std=c11", "-Wall", "-Wextra", "-Werror", "-pthread", f"-I{TOP}/crates/iova_c/include"]
+    words += [os.path.join(folder, source), library, "-o", program]
+    done = subprocess.run(words, stderr=subprocess.PIPE, text=True, timeout=PATIENCE, check=False)
+    check_none(f"{name}: it is built", done.stderr)
+    return program
+
+
+def findings(log):
+    """The status of `iovad check`, how many findings there are of each kind, and its counts."""
+    done = subprocess.run([program(), "check", log], stdout=subprocess.PIPE, text=True, timeout=PATIENCE, check=False)
+    kinds = re.findall(r"^line \d+: (\w+)", done.stdout, re.M)
+    counts = {name: int(count) for name, count in re.findall(r"^(\w+) +(\d+)$", done.stdout, re.M)}
+    return done.returncode, {kind: kinds.count(kind) for kind in kinds}, counts
+
+
+def end_with_parent():
+    """The kernel kills this process if its parent ends first: for `preexec_fn`."""
+    ctypes.CDLL(None).prctl(1, signal.SIGKILL)  # PR_SET_PDEATHSIG
 
 
 def __getattr__(name):
