@@ -17,7 +17,7 @@ FOREIGN = frozenset(
     "IOVA_MAG_SIZE MAX_GLOBAL_MAGS IOVA_RANGE_CACHE_MAX_SIZE iommu_dma_alloc_iova __alloc_and_insert_iova_range alloc_iova "
     "__iova_rcache_get __iova_rcache_insert iova_magazine_pop iova_domain_flush iova_fq rcache trace_event NO_PASID "
     # the interfaces of docs/FITS.md: DPDK, SPDK, vfio-user, IOMMUFD
-    "rte_dev_dma_map spdk_mem_register VFIO_USER_DMA_MAP VFIO_USER_DMA_UNMAP "
+    "rte_dev_dma_map rte_extmem_register rte_malloc_heap_create rte_malloc_heap_memory_add rte_pktmbuf_attach_extbuf pa va mp xmem spdk_mem_register VFIO_USER_DMA_MAP VFIO_USER_DMA_UNMAP "
     "IOMMU_IOAS_IOVA_RANGES IOMMU_IOAS_MAP IOMMU_IOAS_MAP_FIXED_IOVA IOMMU_IOAS_UNMAP "
     # settings of systemd and docker; words of tools: rt and its prover, trace-cmd, libabigail, the compiler, grep; the system's words;
     # the front of `inval`, which docs/MODEL.md has as cut off
