@@ -47,7 +47,7 @@ struct driver {
     iova_shared shared;
     iova_shared_cache cache;
     iovad_session session; /* with the daemon */
-    int has_daemon, is_strict;
+    int is_strict;
     uint64_t sent, received, wrong, mapped, again, last;
     uint32_t known[LAST + 1];
 };
@@ -72,7 +72,7 @@ static int invalidate(void *with) {
 
 static uint64_t map(struct driver *driver, const uint8_t *page) {
     uint64_t address;
-    if (driver->has_daemon) {
+    if (driver->vhost.has_daemon) {
         iovad_range range = iovad_alloc(&driver->session, 1, LAST);
         must(range.error, "an address");
         address = range.lo * FRAME;
@@ -90,7 +90,7 @@ static uint64_t map(struct driver *driver, const uint8_t *page) {
 /* Unmapped first, then given back. */
 static void unmap(struct driver *driver, uint64_t address) {
     vhost_unmap(&driver->vhost, address);
-    if (driver->has_daemon)
+    if (driver->vhost.has_daemon)
         must(iovad_free(&driver->session, address / FRAME).error, "give back");
     else
         must(iova_shared_unmap_bytes(&driver->cache, address).refused, "give back");
@@ -100,7 +100,7 @@ static void unmap(struct driver *driver, uint64_t address) {
 
 /* The daemon's peer has to listen before the daemon begins, so the daemon may come later than this process. */
 static void start_addresses(struct driver *driver, const char *how, const char *daemon) {
-    driver->has_daemon = daemon != NULL;
+    driver->vhost.has_daemon = daemon != NULL;
     if (daemon) {
         iovad_opened opened;
         broker_start(&driver->broker, &driver->vhost, how);
@@ -108,6 +108,9 @@ static void start_addresses(struct driver *driver, const char *how, const char *
         while ((opened = iovad_open(&driver->session, daemon, 0, 0)).error == IOVAD_NO_DAEMON && tries-- > 0)
             usleep(1000);
         must(opened.error, daemon);
+        pthread_mutex_lock(&driver->vhost.lock);
+        driver->vhost.client = opened.number;
+        pthread_mutex_unlock(&driver->vhost.lock);
         return;
     }
     driver->is_strict = !strcmp(how, "strict");
@@ -246,7 +249,10 @@ static void stop(struct driver *driver) {
         driver->free[driver->free_count++] = at;
     for (at = 0; at < POSTED; at++)
         unmap(driver, driver->in.address[at]);
-    if (driver->has_daemon) {
+    if (driver->vhost.has_daemon) {
+        /* an earlier driver may have died: the broker stays until the daemon has taken its ranges back */
+        for (int tries = 10000; iovad_stat(&driver->session).client > 0 && tries > 0; tries--)
+            usleep(1000);
         must(iovad_flush(&driver->session).error, "a flush");
         iovad_bye(&driver->session);
         return;

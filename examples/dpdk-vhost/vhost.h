@@ -76,6 +76,8 @@ struct vhost {
     const uint8_t *table[LAST + 1]; /* the page table: the memory of each frame, or NULL */
     uint8_t is_stale[LAST + 1];     /* whether a frame was unmapped since the last flush */
     uint64_t stale;                 /* the number of these frames */
+    uint64_t client;                /* of the daemon, who maps here; 0 if there is none, or it is gone */
+    int has_daemon;
     uint64_t flushes, messages;     /* messages: INVALIDATE */
     uint64_t microseconds;          /* of all flushes */
     uint64_t misses, faults;        /* faults: misses of what isn't mapped */
@@ -150,20 +152,26 @@ static inline void vhost_update(struct vhost *vhost, uint64_t address, const voi
 /* Puts a page into the page table. The device may ask for it from now on. */
 static inline void vhost_map(struct vhost *vhost, uint64_t address, const uint8_t *page) {
     pthread_mutex_lock(&vhost->lock);
+    if (vhost->has_daemon && !vhost->client)
+        vhost_fails("the client is gone, and maps nothing");
     vhost->table[address / FRAME] = page;
     vhost_note(vhost, "map", address);
     pthread_mutex_unlock(&vhost->lock);
 }
 
-/* Takes it out. The IOTLB may still have it. */
+/* Takes it out. The IOTLB may still have it. The lock is held. */
+static inline void vhost_remove(struct vhost *vhost, uint64_t address) {
+    if (!vhost->table[address / FRAME])
+        return;
+    vhost->table[address / FRAME] = NULL;
+    vhost->stale += !vhost->is_stale[address / FRAME];
+    vhost->is_stale[address / FRAME] = 1;
+    vhost_note(vhost, "unmap", address);
+}
+
 static inline void vhost_unmap(struct vhost *vhost, uint64_t address) {
     pthread_mutex_lock(&vhost->lock);
-    if (vhost->table[address / FRAME]) {
-        vhost->table[address / FRAME] = NULL;
-        vhost->stale += !vhost->is_stale[address / FRAME];
-        vhost->is_stale[address / FRAME] = 1;
-        vhost_note(vhost, "unmap", address);
-    }
+    vhost_remove(vhost, address);
     pthread_mutex_unlock(&vhost->lock);
 }
 
