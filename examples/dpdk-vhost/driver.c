@@ -55,7 +55,7 @@ struct driver {
 static void must(uint64_t error, const char *what) {
     if (!error)
         return;
-    fprintf(stderr, "driver: %s: %s\n", what, error < 100 ? iova_refusal_name(error) : iovad_error_name(error));
+    fprintf(stderr, "driver: %s: %s\n", what, error < 200 ? iovad_error_name(error) : iova_refusal_name(error));
     exit(2);
 }
 
