@@ -177,7 +177,8 @@ static inline void vhost_unmap(struct vhost *vhost, uint64_t address) {
 
 /* The flush, between its begin and its end: the IOTLB loses all that was unmapped, with one INVALIDATE for frames in a
  * row. The device takes messages in order, so it acknowledges only the last one. The lock is held.
- * DPDK 22.11 also drops the page above a range that INVALIDATE has to its last byte. So the last byte is left out. */
+ * DPDK 22.11 seems to drop the page above too if INVALIDATE has a range to its last byte: packets were lost. So the
+ * last byte is left out. */
 static inline int vhost_invalidate(struct vhost *vhost, uint64_t number) {
     uint64_t begin = vhost_microseconds();
     fprintf(vhost->log, "begin %" PRIu64 "\n", number);
