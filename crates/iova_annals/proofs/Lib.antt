@@ -1,0 +1,5 @@
+pub mod Entries
+pub mod Rows
+pub mod Steps
+pub mod Walks
+mod Sent
