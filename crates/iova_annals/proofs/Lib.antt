@@ -1,5 +1,5 @@
 pub mod Entries
 pub mod Rows
-pub mod Steps
-pub mod Walks
+mod Steps
+mod Walks
 mod Sent

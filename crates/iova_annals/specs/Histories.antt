@@ -1,24 +1,25 @@
--- What contracts say of a history and of the hands that write it.
+-- Definitions of a history, and of the hands that write it. A history is a list of entries, each with
+-- the number of its hand.
 use Rattle.std.specs.Prelude.{ℕ, ◌≡◌, ◌+◌, ◌<◌, ◌==◌, List, [], ◌∷◌, map, if◌then◌else◌, slice_get, Some}
 
--- entries, under the number of a hand
+-- the entries, each with the number of this hand
 abbrev pub marks : {E : Type 0} → ℕ → List E → List (ℕ × E)
 marks i xs = map (λ x. (i, x)) xs
 
--- what the hand with this number wrote
+-- the entries of the hand with this number
 abbrev pub of_hand : {E : Type 0} → ℕ → List (ℕ × E) → List E
 of_hand i [] = []
 of_hand i (e ∷ es) = if e.0 == i then e.1 ∷ of_hand i es else of_hand i es
 
--- the entries, without the hands
+-- the entries, without the numbers
 abbrev pub entries_of : {E : Type 0} → List (ℕ × E) → List E
 entries_of es = map (λ e. e.1) es
 
--- each entry is that of one of so many hands
+-- each number is below n, so each entry is of one of n hands
 abbrev pub AreMarked : {E : Type 0} → ℕ → List (ℕ × E) → Type 0
 AreMarked n [] = Unit {0}
 AreMarked n (e ∷ es) = (e.0 < n) × AreMarked n es
 
--- the names of a row stand in those of all hands, from this number on
+-- the names of a row are a part of the names of all hands, from the number of the row's first hand on
 abbrev pub IsRow : List ℕ → ℕ → List ℕ → Type 0
 IsRow hands first names = (i d : ℕ) → slice_get names i ≡ Some d → slice_get hands (first + i) ≡ Some d

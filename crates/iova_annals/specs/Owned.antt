@@ -1,5 +1,6 @@
--- What the tokens own. The annals have the right to say what the history is, and for each hand one
--- half of a ghost name whose value is what that hand wrote. The hand has the other half.
+-- The ghost state of the tokens. The annals own the right to say which entries the history has. Each
+-- hand has a ghost name, whose value is the list of the hand's entries. The annals own one half of
+-- the name, and the hand owns the other half.
 use Rattle.std.specs.Prelude.{ℕ, suc, List, [], ◌∷◌, map}
 use base.Fraction.{full_share}
 use base.Stored.{Gv, Coded, coded×, coded_ℕ, coded_list}
@@ -7,7 +8,7 @@ use base.Fml.{Fml, ftrue, fsep, fobs, fauth}
 use base.Growing.{Order, prefixes, latest, at_least}
 use Rattle.iova_annals.specs.Histories.{of_hand}
 
--- The history is kept as its ghost values, in an algebra that names no type parameter.
+-- The history as a list of ghost values, so that the algebra names no type parameter.
 abbrev itself : Coded Gv
 itself = record { code = λ g. g; inj = λ x y p. p }
 
@@ -21,7 +22,7 @@ module _ {E : Type 0} (cv : Coded E) where
   abbrev pub marked : Coded (ℕ × E)
   marked = coded× coded_ℕ cv
 
-  -- a half for each hand, from number k on
+  -- the annals' half of each name, from number k on
   abbrev pub rows : ℕ → List ℕ → List (ℕ × E) → Fml
   rows k [] log = ftrue
   rows k (δ ∷ δs) log = fsep (fauth δ (lists.code (of_hand k log))) (rows (suc k) δs log)
@@ -33,7 +34,7 @@ module _ {E : Type 0} (cv : Coded E) where
   hand_owns γ δ mine seen =
       fsep (fobs δ (lists.code mine)) (at_least logs γ (map marked.code seen))
 
-  -- each hand of a row, before it writes
+  -- the hands of a row, which have no entries
   abbrev pub unused : ℕ → List ℕ → Fml
   unused γ [] = ftrue
   unused γ (δ ∷ δs) = fsep (hand_owns γ δ [] []) (unused γ δs)

@@ -1,9 +1,9 @@
-//! One history of what several threads do to one thing, which proofs alone see. Its tokens take no
-//! bytes, and its functions do nothing at run time.
+//! The history of a thing that threads share. Only proofs see it: the tokens take no bytes, and the
+//! functions do nothing at run time.
 //!
-//! The `Annals` lie beside the thing, under its lock, and know the whole history. Each thread has a
-//! `Hand`, which knows what was written under its number and how far it has seen. An entry is
-//! written by a hand alone, under its number.
+//! The `Annals` are next to the thing, under its lock, and know the whole history. Each thread has a
+//! `Hand`. The hand knows all entries under its number, and how much of the history its thread saw.
+//! Only a hand writes entries, and only under its number.
 #![tactic(auto)]
 
 ghost use Rattle.std.specs.Prelude.{◌≡◌, ◌≤◌, ◌+◌, ℕ, List, [], ◌∷◌, ◌++◌, length, slice_get, Some};
@@ -12,9 +12,12 @@ ghost use mathlib.Core.List.{IsPrefix};
 ghost use Rattle.iova_annals.specs.Histories.{of_hand};
 ghost use Rattle.iova_annals.specs.Owned.{annals_owns, hand_owns, hands_own};
 
+pub mod crossing;
+
 use std::marker::{Model, PhantomData};
 
-/// The right to say what the history is: each entry, with the number of the hand that wrote it.
+/// The right to say which entries the history has. Each entry has the number of the hand that wrote
+/// it.
 pub struct Annals<E> {
     marker: PhantomData<E>,
     pub ghost book: { ℕ },
@@ -26,8 +29,8 @@ impl<E> Model for Annals<E> {
     ghost also_owns = { λ a. annals_owns E.row.coded a.book a.hands a.log };
 }
 
-/// The right to write under one number: all that was written under it, and the history as far as
-/// the hand saw it.
+/// The right to write under one number. `mine` has all entries under this number, and `seen` is the
+/// history at the hand's last call.
 pub struct Hand<E> {
     marker: PhantomData<E>,
     pub ghost book: { ℕ },
@@ -41,7 +44,7 @@ impl<E> Model for Hand<E> {
     ghost also_owns = { λ h. hand_owns E.row.coded h.book h.name h.mine h.seen };
 }
 
-/// A row of hands that wrote nothing: their ghost names, and the number of the first one.
+/// A row of unused hands: their ghost names, and the number of the first hand.
 pub struct Hands<E> {
     marker: PhantomData<E>,
     pub ghost book: { ℕ },
@@ -54,7 +57,7 @@ impl<E> Model for Hands<E> {
 }
 
 impl<E> Annals<E> {
-    /// A history without an entry, and a row of so many hands.
+    /// Makes a history without entries, and a row of `hands` hands.
     #[inline(always)]
     pub fn open(hands: u64) -> (Annals<E>, Hands<E>)
         ensures annals { (length result.0.hands ≡ hands) × (result.0.log ≡ []) }
@@ -70,7 +73,7 @@ impl<E> Annals<E> {
         )
     }
 
-    /// The hand writes an entry. It has then seen the whole history.
+    /// Appends the entry under the hand's number. The hand then has seen the whole history.
     #[inline(always)]
     pub fn record(&mut self, hand: &mut Hand<E>, entry: &E)
         requires book { hand.old.book ≡ self.old.book }
@@ -84,7 +87,7 @@ impl<E> Annals<E> {
         ensures told { (hand.old.mine ≡ of_hand hand.old.number self.old.log) × IsPrefix hand.old.seen self.old.log }
     {}
 
-    /// The hand sees the whole history, and writes nothing.
+    /// Shows the hand the whole history, and appends nothing.
     #[inline(always)]
     pub fn look(&mut self, hand: &mut Hand<E>)
         requires book { hand.old.book ≡ self.old.book }
@@ -99,7 +102,7 @@ impl<E> Annals<E> {
 }
 
 impl<E> Hands<E> {
-    /// The first hand of the row.
+    /// Removes the first hand of the row, and returns it.
     #[inline(always)]
     pub fn take(&mut self) -> Hand<E>
         requires { 1 ≤ length self.old.names }
@@ -113,7 +116,7 @@ impl<E> Hands<E> {
         }
     }
 
-    /// The first `count` hands of the row, as a row of their own.
+    /// Removes the first `count` hands of the row, and returns them as a row.
     #[inline(always)]
     pub fn split_off(&mut self, count: u64) -> Hands<E>
         requires { count ≤ length self.old.names }
@@ -127,21 +130,21 @@ impl<E> Hands<E> {
     }
 }
 
-/// Drops nothing. The proof stands here, once for all crates above.
+/// Drops nothing. The crates above don't prove this drop again.
 impl<E> Drop for Annals<E> {
     fn drop(self) {
         let Self { marker: _ } = self;
     }
 }
 
-/// Drops nothing. The proof stands here, once for all crates above.
+/// Drops nothing. The crates above don't prove this drop again.
 impl<E> Drop for Hand<E> {
     fn drop(self) {
         let Self { marker: _ } = self;
     }
 }
 
-/// Drops nothing. The proof stands here, once for all crates above.
+/// Drops nothing. The crates above don't prove this drop again.
 impl<E> Drop for Hands<E> {
     fn drop(self) {
         let Self { marker: _ } = self;
