@@ -1,5 +1,5 @@
--- What a hand wrote, after more was written, and who wrote.
-use Rattle.std.proofs.Common.{◌≡◌, ℕ, ◌<◌, ◌≤◌, length, slice_get, Some, ◌==◌, true, false, List, [], ◌∷◌, ◌++◌, refl, ap, if◌then◌else◌, Bool, ◌∙◌, tests, arith}
+-- The entries of each hand in a longer history, and whose entries a history has.
+use Rattle.std.proofs.Common.{◌≡◌, ℕ, ◌<◌, ◌≤◌, length, slice_get, Some, ◌==◌, true, false, List, [], ◌∷◌, ◌++◌, refl, ap, if◌then◌else◌, Bool, ◌∙◌, tests, arith, append-nil}
 use Rattle.std.proofs.lemmas.Option.{slice_get_within}
 use Rattle.iova_annals.specs.Histories.{marks, of_hand, entries_of, AreMarked}
 
@@ -29,12 +29,8 @@ module _ {E : Type 0} where
   pub of_own : (i : ℕ) (log : List (ℕ × E)) (more : List E) → of_hand i (log ++ marks i more) ≡ of_hand i log ++ more
   of_own i log more = cc (of_append i log (marks i more), of_marks i more)
 
-  nothing_more : (xs : List E) → xs ++ [] ≡ xs
-  nothing_more [] = refl
-  nothing_more (x ∷ xs) = ap (λ (ys : List E). x ∷ ys) (nothing_more xs)
-
   pub of_other : (k i : ℕ) (log : List (ℕ × E)) (more : List E) → (i == k) ≡ false → of_hand k (log ++ marks i more) ≡ of_hand k log
-  of_other k i log more ne = cc (of_append k log (marks i more), of_others k i more ne, nothing_more (of_hand k log))
+  of_other k i log more ne = cc (of_append k log (marks i more), of_others k i more ne, append-nil (of_hand k log))
 
   pub entries_append : (xs ys : List (ℕ × E)) → entries_of (xs ++ ys) ≡ entries_of xs ++ entries_of ys
   entries_append [] ys = refl

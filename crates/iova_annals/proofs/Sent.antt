@@ -1,4 +1,4 @@
--- The tokens name no thread's key, so they may go to another thread.
+-- The ghost state of the tokens names no key of a thread, so the tokens may go to another thread.
 use mathlib.Core.List.{List, [], ◌∷◌}
 use Prim.Native.Nat.{ℕ, suc}
 use base.Shift.{Keyless}

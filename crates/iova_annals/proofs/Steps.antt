@@ -1,4 +1,4 @@
--- The ghost side of each function. Assumes `Logic`.
+-- The change of ghost state in each function. Assumes `Logic`.
 use Rattle.std.proofs.Common.{◌≡◌, ℕ, zero, suc, ◌+◌, ◌<◌, ◌≤◌, ◌==◌, false, List, [], ◌∷◌, ◌++◌, map, length, take, drop as drop_front, slice_get, Some, sym, refl, ap, ◌∙◌, subst, arith, tests, append-nil}
 use mathlib.Core.List.{IsPrefix}
 use seplogic.Ra.Ura.{Ura}
@@ -61,7 +61,7 @@ module _ {M : Type 1} {𝓤 : Ura M} (𝓛 : Logic 𝓤) {E : Type 0} (cv : Code
   abbrev had : ℕ → List (ℕ × E) → Fml
   had γ log = at_least logs γ (all_of log)
 
-  -- what one hand writes leaves the halves of the others
+  -- the entries of one hand leave the halves of the other hands
   rows_stay : (hands : List ℕ) (k i : ℕ) (log : List (ℕ × E)) (more : List E) → i < k → ⟦ rows cv k hands log ⟧ ⊢ ⟦ rows cv k hands (log ++ marks i more) ⟧
   rows_stay [] k i log more lt = id⊢ 𝓤 _
   rows_stay (δ ∷ δs) k i log more lt = qed 𝓛 (‵ (rows cv k (δ ∷ δs) log) ∷ []) ∵ fsplit ! $
@@ -72,7 +72,7 @@ module _ {M : Type 1} {𝓤 : Ura M} (𝓛 : Logic 𝓤) {E : Type 0} (cv : Code
     abbrev Gone : ℕ → List ℕ → Pr
     Gone k hands = guard 𝓤 (mine ≡ of_hand i log) (⟦ rows cv k hands (log ++ marks i more) ⟧ ∗ ⟦ fobs δ (wrote (mine ++ more)) ⟧)
 
-    -- the hand's halves agree on what it wrote, and both go on
+    -- both halves of a name have the same entries, and get the new entries
     row_goes : (hands : List ℕ) (k j : ℕ) → k + j ≡ i → slice_get hands j ≡ Some δ → ⟦ rows cv k hands log ⟧ ∗ ⟦ fobs δ (wrote mine) ⟧ ⊢ upd 𝓤 (Gone k hands)
     row_goes [] k j sum at = absurd (cc at)
     row_goes (γ ∷ γs) k zero sum at = let G : Pr = Gone k (γ ∷ γs) in let is : γ ≡ δ = cc at in let ki : k ≡ i = omega arith in
@@ -120,7 +120,7 @@ module _ {M : Type 1} {𝓤 : Ura M} (𝓛 : Logic 𝓤) {E : Type 0} (cv : Code
     abbrev Dealt : ℕ → ℕ → List ℕ → Pr
     Dealt n k hands = guard 𝓤 (length hands ≡ n) (⟦ top γ [] ⟧ ∗ ⟦ rows cv k hands [] ⟧ ∗ ⟦ unused cv γ hands ⟧)
 
-    -- so many names, of which each side gets a half
+    -- n names: the annals get one half of each name, and the row gets the other half
     deals : (n k : ℕ) → ⟦ top γ [] ⟧ ⊢ H.⇛ (ex 𝓤 (Dealt n k))
     unfolding hand_owns
     deals zero k = qed 𝓛 (‵ (top γ []) ∷ []) ∵ updating ! $ nothing ! $ nothing ! $ now ! $ show ! (Dealt zero k) [] $ check ! refl $ move ! (2 ∷ 0 ∷ 1 ∷ []) $ done !

@@ -1,4 +1,5 @@
--- The names that the walks cite, and how an `ensures` of several clauses is shown. Assumes `Logic`.
+-- The names that proofs by hand cite, and the proof of an `ensures` with several clauses. Assumes
+-- `Logic`.
 pub use Rattle.std.proofs.Common.{◌≡◌, ℕ, ◌+◌, List, [], ◌∷◌, ◌++◌, length, take, drop as drop_front, sym, refl, w64}
 use seplogic.Ra.Ura.{Ura}
 pub use mir.Syntax.{a_type, named}

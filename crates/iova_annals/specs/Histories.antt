@@ -1,5 +1,5 @@
--- Definitions of a history, and of the hands that write it. A history is a list of entries, each with
--- the number of its hand.
+-- Definitions of a history, and of the hands that write it. A history is a list of entries, each
+-- with the number of its hand.
 use Rattle.std.specs.Prelude.{ℕ, ◌≡◌, ◌+◌, ◌<◌, ◌==◌, List, [], ◌∷◌, map, if◌then◌else◌, slice_get, Some}
 
 -- the entries, each with the number of this hand
@@ -20,6 +20,8 @@ abbrev pub AreMarked : {E : Type 0} → ℕ → List (ℕ × E) → Type 0
 AreMarked n [] = Unit {0}
 AreMarked n (e ∷ es) = (e.0 < n) × AreMarked n es
 
--- the names of a row are a part of the names of all hands, from the number of the row's first hand on
+-- The names of a row are a part of the names of all hands. The part begins at the number of the
+-- row's first hand.
 abbrev pub IsRow : List ℕ → ℕ → List ℕ → Type 0
-IsRow hands first names = (i d : ℕ) → slice_get names i ≡ Some d → slice_get hands (first + i) ≡ Some d
+IsRow hands first names =
+    (i d : ℕ) → slice_get names i ≡ Some d → slice_get hands (first + i) ≡ Some d

@@ -1,6 +1,6 @@
--- The ghost state of the tokens. The annals own the right to say which entries the history has. Each
--- hand has a ghost name, whose value is the list of the hand's entries. The annals own one half of
--- the name, and the hand owns the other half.
+-- The ghost state of the tokens. The annals own the right to say which entries the history has.
+-- Each hand has a ghost name, whose value is the list of the hand's entries. The annals own one half
+-- of the name, and the hand owns the other half.
 use Rattle.std.specs.Prelude.{ℕ, suc, List, [], ◌∷◌, map}
 use base.Fraction.{full_share}
 use base.Stored.{Gv, Coded, coded×, coded_ℕ, coded_list}

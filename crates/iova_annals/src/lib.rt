@@ -1,9 +1,9 @@
 //! The history of a thing that threads share. Only proofs see it: the tokens take no bytes, and the
 //! functions do nothing at run time.
 //!
-//! The `Annals` are next to the thing, under its lock, and know the whole history. Each thread has a
-//! `Hand`. The hand knows all entries under its number, and how much of the history its thread saw.
-//! Only a hand writes entries, and only under its number.
+//! The `Annals` are next to the thing, under its lock, and know the whole history. Each thread has
+//! a `Hand`. The hand knows all entries under its number, and how much of the history its thread
+//! saw. Only a hand writes entries, and only under its number.
 #![tactic(auto)]
 
 ghost use Rattle.std.specs.Prelude.{◌≡◌, ◌≤◌, ◌+◌, ℕ, List, [], ◌∷◌, ◌++◌, length, slice_get, Some};
@@ -61,7 +61,8 @@ impl<E> Annals<E> {
     #[inline(always)]
     pub fn open(hands: u64) -> (Annals<E>, Hands<E>)
         ensures annals { (length result.0.hands ≡ hands) × (result.0.log ≡ []) }
-        ensures hands { (result.1.book ≡ result.0.book) × (result.1.names ≡ result.0.hands) × (result.1.first ≡ 0) }
+        ensures hands { (result.1.book ≡ result.0.book)
+            × (result.1.names ≡ result.0.hands) × (result.1.first ≡ 0) }
     {
         (
             Annals {
@@ -84,7 +85,8 @@ impl<E> Annals<E> {
         ensures number { hand.new.number ≡ hand.old.number }
         ensures mine { hand.new.mine ≡ hand.old.mine ++ entry.now ∷ [] }
         ensures seen { hand.new.seen ≡ self.new.log }
-        ensures told { (hand.old.mine ≡ of_hand hand.old.number self.old.log) × IsPrefix hand.old.seen self.old.log }
+        ensures told { (hand.old.mine ≡ of_hand hand.old.number self.old.log)
+            × IsPrefix hand.old.seen self.old.log }
     {}
 
     /// Shows the hand the whole history, and appends nothing.
@@ -97,7 +99,8 @@ impl<E> Annals<E> {
         ensures number { hand.new.number ≡ hand.old.number }
         ensures mine { hand.new.mine ≡ hand.old.mine }
         ensures seen { hand.new.seen ≡ self.old.log }
-        ensures told { (hand.old.mine ≡ of_hand hand.old.number self.old.log) × IsPrefix hand.old.seen self.old.log }
+        ensures told { (hand.old.mine ≡ of_hand hand.old.number self.old.log)
+            × IsPrefix hand.old.seen self.old.log }
     {}
 }
 
@@ -120,7 +123,8 @@ impl<E> Hands<E> {
     #[inline(always)]
     pub fn split_off(&mut self, count: u64) -> Hands<E>
         requires { count ≤ length self.old.names }
-        ensures part { (result.book ≡ self.old.book) × (length result.names ≡ count) × (result.first ≡ self.old.first) }
+        ensures part { (result.book ≡ self.old.book)
+            × (length result.names ≡ count) × (result.first ≡ self.old.first) }
         ensures rest { (self.new.book ≡ self.old.book) × (self.new.first ≡ self.old.first + count) }
         ensures names { self.old.names ≡ result.names ++ self.new.names }
     {

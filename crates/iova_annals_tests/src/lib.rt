@@ -1,5 +1,5 @@
-//! Tests of the tokens of a history: entries that contracts see as another type, two hands that write
-//! in turn, and the sizes of the tokens.
+//! Tests of the tokens of a history: entries that contracts see as another type, two hands that
+//! write in turn, and the sizes of the tokens.
 #![tactic(auto)]
 
 ghost use Rattle.std.specs.Prelude.{◌≡◌, ℕ, List, [], ◌∷◌, ◌++◌, slice_get, Some};

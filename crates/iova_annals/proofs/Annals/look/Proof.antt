@@ -1,4 +1,4 @@
--- `look` tells the hand the history, and that both halves of its name agree.
+-- `look` shows the hand the history. Both halves of its name have the same entries.
 use Rattle.iova_annals.proofs.Walks.{◌≡◌, ℕ, List, [], ◌∷◌, sym, refl, a_type, named, Val, vunit, vptr, inst_fn, IsPrefix, SProp, Fml, ftrue, fsep, flft, ‵, raw, ◌⊛◌, given, later, ◌$◌, ◌∵◌, !, qed, by, move, keep, drop, split, fsplit, fsplit3, fjoin, fjoin3, learn, use2, await, rewrite, feq_i, unit_lit, of_opd, returns, enter, alloc_all, pass_all, free_all, look_at, sets, fact, tables, RattleType, owns, types_at, plain, mut_vals, mut_Tells, nothing, opens, closes, param, layouts, Stays, stay_ref, walk_of, Goes-ref, proved, ends, also, last}
 use Rattle.iova_annals.specs.Histories.{of_hand}
 use Rattle.iova_annals.specs.Owned.{annals_owns, hand_owns}

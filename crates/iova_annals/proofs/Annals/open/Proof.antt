@@ -1,4 +1,4 @@
--- `open` makes the right to say what the history is, and a name for each hand.
+-- `open` makes an empty history, and a name for each hand.
 use Rattle.iova_annals.proofs.Walks.{◌≡◌, ℕ, List, [], ◌∷◌, ◌++◌, length, refl, w64, a_type, Val, vint, vstruct, vcons, vnil, of_list, inst_fn, SProp, Fml, ftrue, fsep, feq, flft, ‵, raw, ◌⊛◌, some, given, later, ◌$◌, ◌∵◌, !, qed, by, move, keep, split, fjoin, fjoin3, fpack, pick, learn, use0, await, feq_i, no_more, and_then, returns, enter, alloc_all, pass_all, free_all, look_at, get, sets, agg, tables, yes, RattleType, owns, Valss, types_at, plain, u64, uint_vals, uint_Tells, nothing, param, layouts, Stays, stay_dropped, walk_of, Goes-dropped, proved, token, Token, token_made, ends, also, last}
 use Rattle.iova_annals.specs.Owned.{annals_owns, hands_own}
 use Rattle.iova_annals.specs.contracts.Annals as Annals

@@ -1,4 +1,4 @@
--- `record` moves the history and both halves of the hand's name on.
+-- `record` appends the entry to the history, and to both halves of the hand's name.
 use Rattle.iova_annals.proofs.Walks.{◌≡◌, ℕ, List, [], ◌∷◌, ◌++◌, sym, refl, a_type, named, Val, vunit, vptr, inst_fn, IsPrefix, SProp, Fml, ftrue, fsep, flft, ‵, raw, ◌⊛◌, given, later, ◌$◌, ◌∵◌, !, qed, by, move, keep, drop, split, fsplit, fsplit3, fjoin, fjoin3, learn, use2, await, rewrite, feq_i, unit_lit, of_opd, returns, enter, alloc_all, pass_all, free_all, look_at, sets, fact, tables, yes, RattleType, owns, types_at, plain, RefOf, mut_vals, mut_Tells, shr_vals, shr_Tells, nothing, opens, closes, param, layouts, Stays, stay_dropped, stay_ref, walk_of, Goes-dropped, Goes-ref, proved, ends, also, last}
 use Rattle.iova_annals.specs.Histories.{of_hand}
 use Rattle.iova_annals.specs.Owned.{annals_owns, hand_owns}

@@ -1,4 +1,4 @@
--- `split_off` lets the first names of the row go.
+-- `split_off` gives the first names of the row to the new row.
 use Rattle.std.proofs.lemmas.List.{take-append-drop, length-take-le}
 use Rattle.iova_annals.proofs.Walks.{ℕ, ◌+◌, List, [], ◌∷◌, take, drop_front, sym, refl, w64, a_type, named, Val, vint, vptr, inst_fn, SProp, Fml, ftrue, fsep, flft, ‵, raw, ◌⊛◌, given, ◌$◌, ◌∵◌, !, qed, by, move, keep, drop, split, fsplit, fsplit3, fjoin, fjoin3, learn, use0, use1, feq_i, no_more, and_then, returns, enter, alloc_all, pass_all, free_all, look_at, get, sets, agg, fact, tables, yes, RattleType, owns, types_at, plain, u64, mut_vals, mut_Tells, uint_vals, uint_Tells, nothing, opens, closes, param, layouts, Stays, stay_dropped, stay_ref, walk_of, Goes-dropped, Goes-ref, proved, token, Token, token_made, ends, also, last}
 use Rattle.iova_annals.specs.Owned.{hands_own}

@@ -1,4 +1,4 @@
--- `take` lets the first name of the row go.
+-- `take` gives the first name of the row to the hand.
 use Rattle.iova_annals.proofs.Walks.{ℕ, ◌+◌, List, [], ◌∷◌, drop_front, refl, a_type, named, Val, vptr, inst_fn, SProp, Fml, ftrue, fsep, flft, ‵, raw, ◌⊛◌, given, ◌$◌, ◌∵◌, !, qed, by, move, keep, drop, split, fsplit, fsplit3, fjoin, fjoin3, learn, use0, use1, feq_i, no_more, and_then, returns, enter, alloc_all, pass_all, free_all, look_at, get, sets, agg, fact, tables, RattleType, owns, types_at, plain, mut_vals, mut_Tells, nothing, opens, closes, param, layouts, Stays, stay_ref, walk_of, Goes-ref, proved, token, Token, token_made, ends, also, last}
 use Rattle.iova_annals.specs.Owned.{hand_owns, hands_own}
 use Rattle.iova_annals.specs.contracts.Hand as Hand
