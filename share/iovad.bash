@@ -1,4 +1,4 @@
-# Completion of iovad's words for bash; bin/completion makes it.
+# Completion of iovad's words for bash; bin/dev completion makes it.
 _iovad() {
   local word=${COMP_WORDS[COMP_CWORD]} before=${COMP_WORDS[COMP_CWORD - 1]} words='' files='' at place=0
   COMPREPLY=()

@@ -1,4 +1,4 @@
-# Completion of iovad's words for fish; bin/completion makes it.
+# Completion of iovad's words for fish; bin/dev completion makes it.
 function __iovad_is -d 'The command, and which of its places it is'
     set -l words (commandline -opc)
     test (count $words) -ge 2; and test $words[2] = $argv[1]; or return 1

@@ -1,5 +1,5 @@
 #compdef iovad
-# Completion of iovad's words for zsh; bin/completion makes it.
+# Completion of iovad's words for zsh; bin/dev completion makes it.
 _iovad() {
   local context state state_descr line
   typeset -A opt_args

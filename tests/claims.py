@@ -8,7 +8,7 @@ import re
 from harness import TOP
 
 # what the names of a page may come from
-SOURCES = ("crates", "bin", "share", "tests", "bindings", "examples", "bench", "debian", "docs", ".githooks", ".ci", "release", "crates.txt", ".gitmessage")
+SOURCES = ("crates", "bin", "dev", "share", "tests", "bindings", "examples", "bench", "debian", "docs", ".githooks", ".ci", "release", "crates.txt", ".gitmessage")
 LEFT_OUT = ("out", "target", "__pycache__", "results")
 OWN = ("tests/claims.py", "tests/run_docs", "tests/prose.tsv")  # these have the false names that the checks are tried on
 # names that no source of ours has, by the program that they belong to
@@ -111,7 +111,7 @@ def between(text, mark):
 
 def gate_gaps(page, edits):
     """The crates that the gate's table lacks or has twice, and rows with another number of edits than there are."""
-    rows = re.findall(r"^\| `(\w+)` \|(.*)\|$", between(page, "bin/gate").partition("| Part |")[0], re.M)
+    rows = re.findall(r"^\| `(\w+)` \|(.*)\|$", between(page, "bin/dev gate").partition("| Part |")[0], re.M)
     names = [name for name, _ in rows]
     wrong = [f"{name} has {names.count(name)} rows" for name in edits if names.count(name) != 1]
     wrong += [f"{name} is no crate" for name in names if name not in edits]
@@ -167,7 +167,7 @@ def bad_header(name, head):
 def seeded():
     """Each check finds the false sentence of its kind, and leaves the true one alone: what is wrong with the checks."""
     head = "# 2026-11-30, commit 531b42a6, 4 processors (Intel), a load of 0.3 at the start: bench/kernel 5"
-    table = "<!-- bin/gate -->\n| Crate | Proof | Its tests | Its edits | Edits | Sum | Run |\n|---|---|---|---|---|---|---|\n{}<!-- end -->\n"
+    table = "<!-- bin/dev gate -->\n| Crate | Proof | Its tests | Its edits | Edits | Sum | Run |\n|---|---|---|---|---|---|---|\n{}<!-- end -->\n"
     one, two = "| `iova_range` | 0.5 |  | 1.5 | 8 | 2.0 | x |\n", "| `iova_text` | 0.8 |  | 2.1 | 8 | 2.9 | x |\n"
     names = functools.partial(unknown_names, page="docs/X.md")
     figures = functools.partial(bare_figures, page="docs/X.md")

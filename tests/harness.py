@@ -7,7 +7,7 @@ A file of tests is of one of two kinds. One that looks at many things one after 
 `counted` last. In the other each test is a function under `@test`, which is given a folder and fails by `same` and `holds`; `run_tests` runs
 them.
 
-PROGRAM is the environment's IOVAD, else what was built here, else what bin/program finds.
+PROGRAM is the environment's IOVAD, else what was built here, else what bin/dev program finds.
 """
 import contextlib
 import ctypes
@@ -140,7 +140,7 @@ def built(variable, path, finder):
     """The environment's, else what was built here, else what a script finds, which may build it first."""
     made = os.environ.get(variable) or os.path.join(TOP, "crates", *path)
     if not os.path.exists(made):
-        found = subprocess.run([os.path.join(TOP, "bin", finder)], stdin=subprocess.DEVNULL, stdout=subprocess.PIPE, check=False)
+        found = subprocess.run([os.path.join(TOP, "dev", finder)], stdin=subprocess.DEVNULL, stdout=subprocess.PIPE, check=False)
         if found.returncode:
             print("0 passed, 1 failed")
             sys.exit(1)

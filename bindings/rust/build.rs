@@ -1,5 +1,5 @@
 //! Says where libiova is: in the folder of IOVA_LIB_DIR, where pkg-config finds it, or in the clone that this crate stands in, whose
-//! `bin/library` has the one of the release.
+//! `bin/dev library` has the one of the release.
 
 use std::path::Path;
 use std::process::{exit, Command};
@@ -37,7 +37,7 @@ fn main() {
         }
         return;
     }
-    let clone = Path::new(env!("CARGO_MANIFEST_DIR")).join("../../bin/library");
+    let clone = Path::new(env!("CARGO_MANIFEST_DIR")).join("../../dev/library");
     match clone.exists().then(|| said(&mut Command::new(&clone))).flatten() {
         Some(library) => {
             println!("cargo:rerun-if-changed={library}");
