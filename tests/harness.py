@@ -183,6 +183,12 @@ def end_with_parent():
     ctypes.CDLL(None).prctl(1, signal.SIGKILL)  # PR_SET_PDEATHSIG
 
 
+def rust_tool(name):
+    """Debian's rustc if it is installed, since it is the oldest that has to do, else that of the PATH."""
+    debian = os.path.join("/usr/bin", name)
+    return debian if os.path.exists(debian) else name
+
+
 def __getattr__(name):
     """PROGRAM is looked for where it is asked for."""
     if name != "PROGRAM":

@@ -2,7 +2,7 @@
 
 use std::panic::{catch_unwind, resume_unwind, AssertUnwindSafe};
 use std::sync::atomic::{AtomicU64, AtomicUsize, Ordering::SeqCst};
-use std::sync::{Arc, Mutex, OnceLock, Weak};
+use std::sync::{Arc, Mutex, Weak};
 use std::time::Duration;
 use std::{process, thread};
 
@@ -21,7 +21,7 @@ enum What {
 struct Device {
     does: Mutex<What>,
     invalidations: AtomicU64,
-    shared: OnceLock<Weak<Shared>>,
+    shared: Mutex<Weak<Shared>>,
     nested: AtomicUsize,
 }
 
@@ -34,7 +34,7 @@ impl Device {
             What::Fails => false,
             What::Panics => resume_unwind(Box::new("no device")),
             What::Flushes => {
-                let shared = self.shared.get().and_then(Weak::upgrade).unwrap();
+                let shared = self.shared.lock().unwrap().upgrade().unwrap();
                 assert_eq!(shared.flush(), Err(Refusal::FlightsFull));
                 self.nested.fetch_add(1, SeqCst);
                 true
@@ -52,12 +52,12 @@ fn new() -> (Arc<Device>, Arc<Shared>) {
     let device = Arc::new(Device {
         does: Mutex::new(What::GoesWell),
         invalidations: AtomicU64::new(0),
-        shared: OnceLock::new(),
+        shared: Mutex::new(Weak::new()),
         nested: AtomicUsize::new(0),
     });
     let its = Arc::clone(&device);
     let shared = Arc::new(Shared::new(Domain::new(1, 100_000, 1).unwrap(), move || its.invalidate()));
-    device.shared.set(Arc::downgrade(&shared)).unwrap();
+    *device.shared.lock().unwrap() = Arc::downgrade(&shared);
     (device, shared)
 }
 
